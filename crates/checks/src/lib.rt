@@ -1,0 +1,33 @@
+// The numbers of document 01's checks. A "no" answers with its check's number, and a taken call with 0.
+
+pub const TAKEN: u32 = 0;
+
+// Of the file.
+pub const LENGTH: u32 = 1;
+
+pub const MARK: u32 = 2;
+
+pub const VERSION: u32 = 3;
+
+pub const ENTRIES: u32 = 4;
+
+pub const PRESENT: u32 = 5;
+
+pub const KIND: u32 = 6;
+
+pub const SIZE_COUNT: u32 = 7;
+
+pub const LIMITS: u32 = 8;
+
+pub const ORDER: u32 = 9;
+
+pub const GAUGES: u32 = 10;
+
+pub const JOIN: u32 = 11;
+
+pub const ONE_PART: u32 = 12;
+
+pub const AT_END: u32 = 13;
+
+// Of the levels.
+pub const LEVEL_COUNT: u32 = 14;
