@@ -1,0 +1,22 @@
+-- Document 01's file of 28 bytes means the two gauges side by side that the document shows.
+-- The checker computes the definition on these bytes.
+use mathlib.Core.Path.{_≡_, refl}
+use mathlib.Core.List.{List, [], _∷_}
+use Prim.Native.Nat.{ℕ}
+use Rattle.checks.specs.Answer.{taken}
+use Rattle.slicing.specs.Item.{size}
+use Rattle.slicing.specs.Tree.{gauge, beside}
+use Rattle.facefile.specs.Format.{header, sizesAfter, sizesFrom, gaugeSizes, gaugeEntry, joinParts, joinEntry, kindEntry, entry, entries, onePart, atEnd, faceOf}
+use Rattle.facefile.specs.Gauge.{gaugeBytes}
+
+abbrev pub example : List ℕ
+example =
+    0x46 ∷ 0x43 ∷ 0x45 ∷ 0x00 ∷ 0x01 ∷ 0x00 ∷ 0x03 ∷ 0x01 ∷ 0x02 ∷ 0x00 ∷ 0x3C ∷ 0x00 ∷ 0x28 ∷ 0x00 ∷ 0x28 ∷ 0x00 ∷ 0x3C ∷ 0x01 ∷ 0x02 ∷ 0x00 ∷ 0x32 ∷ 0x00 ∷ 0x1E ∷ 0x00 ∷ 0x1E ∷ 0x00 ∷ 0x32 ∷ 0x02 ∷ []
+
+pub example-face : faceOf example ≡ taken (beside (gauge (size 60 40 ∷ size 40 60 ∷ [])) (gauge (size 50 30 ∷ size 30 50 ∷ [])))
+unfolding header sizesAfter sizesFrom gaugeSizes gaugeEntry joinParts joinEntry kindEntry entry entries onePart atEnd faceOf
+example-face = refl
+
+pub example-gauge : gaugeBytes example 2 ≡ 0x00 ∷ 0x32 ∷ 0x00 ∷ 0x1E ∷ 0x00 ∷ 0x1E ∷ 0x00 ∷ 0x32 ∷ []
+unfolding header sizesAfter sizesFrom gaugeSizes gaugeEntry joinParts joinEntry kindEntry entry entries onePart atEnd faceOf gaugeBytes
+example-gauge = refl

@@ -1,0 +1,15 @@
+pub mod Took
+pub mod GoodSizes
+pub mod Stacks
+pub mod Taken
+pub mod Refused
+pub mod SizeBytes
+pub mod Walk
+pub mod SizeChecks
+pub mod Entries
+pub mod Reading
+pub mod Seeking
+pub mod Answered
+pub mod Prefix
+pub mod Written
+pub mod Example

@@ -1,0 +1,25 @@
+-- `facefile::reader::read_end` meets its contract.
+-- For each way out a law of `Reading` takes the tests that lead to it.
+use Rattle.facefile.proofs.Reading.{end-parts, end-left, end-taken}
+use borrow.Author.Needs.{needs}
+use Rattle.facefile.proofs.reader.read_end.Statement.{statement}
+use Rattle.facefile.proofs.reader.read_end.Tie as tie
+
+refused-requires : tie.Need-refused-requires
+refused-requires c κs = search needs
+
+returns : tie.Need-returns
+returns c = search (needs, end-parts)
+
+refused-requires-2 : tie.Need-refused-requires-2
+refused-requires-2 c κs = search needs
+
+returns-2 : tie.Need-returns-2
+returns-2 c = search (needs, end-left)
+
+returns-3 : tie.Need-returns-3
+returns-3 c = search (needs, end-taken)
+
+pub read-end-spec : {M : Type 1} → statement M
+read-end-spec =
+    tie.close (tie.spec refused-requires returns refused-requires-2 returns-2 returns-3)

@@ -1,0 +1,5 @@
+pub mod Format
+pub mod Gauge
+pub mod Summary
+pub mod Tracking
+pub mod Finding
