@@ -1,0 +1,8 @@
+pub mod Sequence
+pub mod UncutTable
+pub mod TopLevel
+pub mod Filling
+pub mod DepthStack
+pub mod Call
+pub mod Range
+pub mod Rows

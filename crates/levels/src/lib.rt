@@ -1,0 +1,76 @@
+// The levels of a face's sizes: document 01's rule, its table, and the call that fills a levels buffer.
+mod depths;
+mod table;
+
+use depths::Depths;
+use depths::depths_of;
+use table::UNCUT;
+ghost use mathlib.Core.Path.{_≡_};
+ghost use Prim.Native.Nat.{_≤_, min};
+ghost use lib.ListN.{length};
+ghost use Rattle.checks.specs.Answer.{number, outcome};
+ghost use Rattle.levels.specs.Levels.{uncutLevel, topLevel, levelsFrom, levelsCall};
+
+// The level of size r before it is cut to the top level, for a size of a face.
+fn uncut_level(r: usize) -> u8
+    requires { ⌜ (1 ≤ r) × (r ≤ 512) ⌝ }
+    ensures { λ level. ⌜ level ≡ uncutLevel r ⌝ }
+{
+    UNCUT[r - 1]
+}
+
+// The level of size r, cut to the top level.
+fn cut_level(r: usize, top: u8) -> u8
+    requires { ⌜ (1 ≤ r) × (r ≤ 512) ⌝ }
+    ensures { λ level. ⌜ level ≡ min (uncutLevel r) top ⌝ }
+{
+    let uncut = uncut_level(r);
+    if uncut < top { uncut } else { top }
+}
+
+// The top level of a face of n sizes, at most 512.
+fn top_level(n: usize, d: Depths) -> u8
+    requires { ⌜ (n ≤ 512) × (d .least ≤ 63) ⌝ }
+    ensures { λ r. ⌜ r ≡ topLevel n (d .least) (d .most) ⌝ }
+{
+    if d.most <= 2 * d.least {
+        return 1;
+    }
+    if n < 128 {
+        return 1;
+    }
+    if n < 512 {
+        return 2;
+    }
+    3
+}
+
+// Fills the buffer with the levels of sizes 1, 2 and so on, cut to the top level.
+fn fill_cut(levels: &mut [u8], top: u8)
+    requires { ⌜ length (now levels) ≤ 512 ⌝ }
+    ensures { λ _. ⌜ now (levels .exit) ≡ levelsFrom top 1 (length (now (levels .entry))) ⌝ }
+{
+    let mut i = 0;
+    while i < levels.len() {
+        levels[i] = cut_level(i + 1, top);
+        i += 1;
+    }
+}
+
+// Checks 1 to 14, then the levels of the face's sizes in the buffer, which has as many bytes. A refusal leaves the
+// buffer as it was.
+pub fn fill(file: &[u8], levels: &mut [u8]) -> u32
+    ensures { λ r. ⌜ r ≡ number (levelsCall (now (file .entry)) (length (now (levels .entry)))) ⌝ }
+    ensures { λ _. ⌜ now (levels .exit) ≡ outcome (levelsCall (now (file .entry)) (length (now (levels .entry)))) (now (levels .entry)) (λ l. l) ⌝ }
+{
+    let face = facefile::read(file);
+    if face.number != checks::TAKEN {
+        return face.number;
+    }
+    if levels.len() != face.sizes {
+        return checks::LEVEL_COUNT;
+    }
+    let top = top_level(face.sizes, depths_of(file));
+    fill_cut(levels, top);
+    checks::TAKEN
+}
