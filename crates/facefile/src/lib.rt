@@ -25,7 +25,7 @@ pub struct Face {
 }
 
 // A place between two entries, and what was counted before it: parts on the stack, gauges and sizes.
-pub struct Cursor {
+struct Cursor {
     pub at: usize,
     pub parts: usize,
     pub gauges: usize,
@@ -33,19 +33,19 @@ pub struct Cursor {
 }
 
 // What reading on from a cursor gives: the number of a check that fails, or the cursor after what was read.
-pub enum Step {
+enum Step {
     Stop(u32),
     Next(Cursor),
 }
 
 // A height and a width.
-pub struct Size {
+struct Size {
     pub height: u32,
     pub width: u32,
 }
 
 // A stretch of the file's bytes, from one place up to another.
-pub struct Stretch {
+struct Stretch {
     pub from: usize,
     pub to: usize,
 }
