@@ -1,3 +1,11 @@
 pub mod Item
 pub mod Tree
 pub mod Good
+pub mod Merge
+pub mod Shapes
+pub mod Recorded
+pub mod Choice
+pub mod Layout
+pub mod Fit
+pub mod Maxplus
+pub mod FitMeans
