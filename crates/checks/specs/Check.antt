@@ -30,6 +30,12 @@ pub data Check : Type 0 where
   AtEnd : Check
   -- As many levels as sizes?
   LevelCount : Check
+  -- Arena and scratch, each 16,384 32-bit words or more?
+  Buffers : Check
+  -- Does the arena hold a lazy list?
+  LazyList : Check
+  -- Is the place from 1 to its length?
+  Place : Check
 
 -- The number that a "no" answers with.
 abbrev pub numberOf : Check → ℕ
@@ -47,3 +53,6 @@ numberOf Join = 11
 numberOf OnePart = 12
 numberOf AtEnd = 13
 numberOf LevelCount = 14
+numberOf Buffers = 17
+numberOf LazyList = 20
+numberOf Place = 21

@@ -31,3 +31,11 @@ pub const AT_END: u32 = 13;
 
 // Of the levels.
 pub const LEVEL_COUNT: u32 = 14;
+
+// Of the lent buffers.
+pub const BUFFERS: u32 = 17;
+
+// Of an arena that is read.
+pub const LAZY_LIST: u32 = 20;
+
+pub const PLACE: u32 = 21;
