@@ -1,0 +1,151 @@
+-- What a list of records is after words elsewhere change: the same links, chain and true p.
+-- Links read levels and forwards alone, and true p levels, p and adjusts alone, so each follows by recursion on the list.
+use mathlib.Core.Path.{_≡_, refl, sym, ap, ap₂, _∙_}
+use mathlib.Core.Bool.{Bool, true, false, cond}
+use mathlib.Core.List.{List, [], _∷_, map}
+use Prim.Native.Nat.{ℕ, zero, suc, _+_, _%_, _^_, _≤_, _<_}
+use native.Mathlib.Omega.{arith}
+use lib.ListN.{length}
+use lib.Dec.{leb, ltb}
+use borrow.Author.Tests.{lt-ltb, le-ltb}
+use Rattle.arena.specs.Arena.{level, pWord, adjust}
+use Rattle.arena.specs.Lazy.{nextWith, sumFrom}
+use Rattle.arena.specs.Chain.{All, Away, Member, Chain, Linked, pUnder, after, trues, Same, Shape, Value}
+use Rattle.arena.specs.Building.{Built}
+
+pub all-map : {P Q : ℕ → Type 0} (rs : List ℕ) → ((x : ℕ) → P x → Q x) → All P rs → All Q rs
+all-map [] f p = tt
+all-map (r ∷ rs) f p = (f r (p .0), all-map rs f (p .1))
+
+pub all-refl : {P : ℕ → Type 0} (rs : List ℕ) → ((x : ℕ) → P x) → All P rs
+all-refl [] f = tt
+all-refl (r ∷ rs) f = (f r, all-refl rs f)
+
+pub all-both : {P Q R : ℕ → Type 0} (rs : List ℕ) → ((x : ℕ) → P x → Q x → R x) → All P rs → All Q rs → All R rs
+all-both [] f p q = tt
+all-both (r ∷ rs) f p q = (f r (p .0) (q .0), all-both rs f (p .1) (q .1))
+
+pub map-same : (f g : ℕ → ℕ) (rs : List ℕ) → All (λ x. f x ≡ g x) rs → map f rs ≡ map g rs
+map-same f g [] e = refl
+map-same f g (r ∷ rs) e = ap₂ _∷_ (e .0) (map-same f g rs (e .1))
+
+pub same-shape : (a b : List ℕ) (x : ℕ) → Same a b x → Shape a b x
+same-shape a b x s =
+    record {
+      level-kept = s .at 0 (omega arith);
+      m-kept = s .at 1 (omega arith);
+      forward-kept = λ k p. s .at (3 + k) (omega arith);
+    }
+
+pub same-value : (a b : List ℕ) (x : ℕ) → Same a b x → Value a b x
+same-value a b x s =
+    record {
+      level-kept = s .at 0 (omega arith);
+      p-kept = s .at 2 (omega arith);
+      adjust-kept = λ k p. s .at (11 + k) (omega arith);
+    }
+
+-- What is outside h and r, for records that are neither.
+pub all-outside : (a b : List ℕ) (h r : ℕ) (rs : List ℕ) → ((x : ℕ) → (x ≡ h → ⊥) → (x ≡ r → ⊥) → Same a b x) → Away h rs → Away r rs → All (Same a b) rs
+all-outside a b h r [] f p q = tt
+all-outside a b h r (x ∷ rs) f p q = (f x (p .0) (q .0), all-outside a b h r rs f (p .1) (q .1))
+
+module _ (a : List ℕ) (k r : ℕ) (rs : List ℕ) where
+  pub next-here : k < level a r → nextWith a k (r ∷ rs) ≡ r
+  unfolding nextWith
+  next-here p = ap (λ (t : Bool). cond t r (nextWith a k rs)) (lt-ltb k (level a r) p)
+
+  pub next-past : level a r ≤ k → nextWith a k (r ∷ rs) ≡ nextWith a k rs
+  unfolding nextWith
+  next-past p = ap (λ (t : Bool). cond t r (nextWith a k rs)) (le-ltb k (level a r) p)
+
+pub next-frame : (a b : List ℕ) (k : ℕ) (rs : List ℕ) → All (λ x. level b x ≡ level a x) rs → nextWith b k rs ≡ nextWith a k rs
+unfolding nextWith
+next-frame a b k [] e = refl
+next-frame a b k (r ∷ rs) e = ap₂ (λ (l : ℕ) (x : ℕ). cond (ltb k l) r x) (e .0) (next-frame a b k rs (e .1))
+
+levels-kept : (a b : List ℕ) (rs : List ℕ) → All (Shape a b) rs → All (λ x. level b x ≡ level a x) rs
+levels-kept a b rs s = all-map rs (λ x t. t .level-kept) s
+
+pub member-frame : (a b : List ℕ) (r : ℕ) (rs : List ℕ) → length b ≡ length a → Shape a b r → All (Shape a b) rs → Member a r rs → Member b r rs
+member-frame a b r rs long s t m =
+    let e = s .level-kept in
+    let has = m .has in
+    let low = m .low in
+    let high = m .high in
+    record {
+      some = m .some;
+      has = omega arith;
+      low = omega arith;
+      high = omega arith;
+      links =
+          record {
+            at = λ k p. s .forward-kept k (omega arith) ∙ m .links .at k (omega arith)
+                ∙ sym (next-frame a b k rs (levels-kept a b rs t));
+          };
+      away = m .away;
+    }
+
+pub chain-frame : (a b : List ℕ) (rs : List ℕ) → length b ≡ length a → All (Shape a b) rs → Chain a rs → Chain b rs
+chain-frame a b [] long s c = tt
+chain-frame a b (r ∷ rs) long s c =
+    (member-frame a b r rs long (s .0) (s .1) (c .0), chain-frame a b rs long (s .1) (c .1))
+
+pub linked-frame : (a b : List ℕ) (h : ℕ) (rs : List ℕ) → length b ≡ length a → Shape a b h → All (Shape a b) rs → Linked a h rs → Linked b h rs
+linked-frame a b h rs long s t l =
+    let e = s .level-kept in
+    let top = l .top in
+    let has = l .has in
+    record {
+      has = omega arith;
+      top = e ∙ top;
+      links =
+          record {
+            at = λ k p. s .forward-kept k (omega arith) ∙ l .links .at k (omega arith)
+                ∙ sym (next-frame a b k rs (levels-kept a b rs t));
+          };
+      away = l .away;
+      chain = chain-frame a b rs long t (l .chain);
+    }
+
+pub built-frame : (a b : List ℕ) (h : ℕ) (rs : List ℕ) → length b ≡ length a → Same a b h → All (Same a b) rs → Built a h rs → Built b h rs
+built-frame a b h rs long s t built =
+    record {
+      linked = linked-frame a b h rs long (same-shape a b h s) (all-map rs (same-shape a b) t) (built .linked);
+      still = λ k p. s .at (11 + k) (omega arith) ∙ built .still k p;
+    }
+
+-- A sum over the links below n reads its function there alone.
+pub sum-frame : (f g : ℕ → ℕ) (l n : ℕ) → ((k : ℕ) → k < n → g k ≡ f k) → sumFrom g l n ≡ sumFrom f l n
+unfolding sumFrom
+sum-frame f g l zero e = refl
+sum-frame f g l (suc n) e =
+    ap₂ (λ (x : ℕ) (y : ℕ). x + cond (leb l n) y 0) (sum-frame f g l n (λ k p. e k (omega arith))) (e n (omega arith))
+
+pub sum-zero : (l n : ℕ) → sumFrom (λ k. 0) l n ≡ 0
+unfolding sumFrom
+sum-zero l zero = refl
+sum-zero l (suc n) = ap₂ (λ (x : ℕ) (y : ℕ). x + y) (sum-zero l n) (none (leb l n))
+  where
+    none : (t : Bool) → _≡_ {A = ℕ} (cond t 0 0) 0
+    none true = refl
+    none false = refl
+
+module _ (a b : List ℕ) (f g : ℕ → ℕ) (e : (k : ℕ) → k < 8 → g k ≡ f k) where
+  pub under-frame : (r : ℕ) → level b r ≡ level a r → pWord b r ≡ pWord a r → pUnder b g r ≡ pUnder a f r
+  unfolding pUnder
+  under-frame r l p =
+      ap₂ (λ (x : ℕ) (y : ℕ). (x + y) % 2 ^ 32) p (ap (λ (n : ℕ). sumFrom g n 8) l ∙ sum-frame f g (level a r) 8 e)
+
+  pub after-frame : (r : ℕ) → Value a b r → (k : ℕ) → k < 8 → after b g r k ≡ after a f r k
+  unfolding after
+  after-frame r v k p =
+      ap (λ (n : ℕ). cond (ltb k n) (adjust b r k) (g k)) (v .level-kept)
+      ∙ ap₂ (λ (x : ℕ) (y : ℕ). cond (ltb k (level a r)) x y) (v .adjust-kept k p) (e k p)
+
+pub trues-frame : (a b : List ℕ) (f g : ℕ → ℕ) (rs : List ℕ) → ((k : ℕ) → k < 8 → g k ≡ f k) → All (Value a b) rs → trues b g rs ≡ trues a f rs
+unfolding trues
+trues-frame a b f g [] e v = refl
+trues-frame a b f g (r ∷ rs) e v =
+    ap₂ _∷_ (under-frame a b f g e r (v .0 .level-kept) (v .0 .p-kept))
+    (trues-frame a b (after a f r) (after b g r) rs (after-frame a b f g e r (v .0)) (v .1))

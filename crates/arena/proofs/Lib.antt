@@ -1,0 +1,14 @@
+pub mod Cases
+pub mod PutLaws
+pub mod Frames
+pub mod HookLaws
+pub mod PrependLaws
+pub mod ClearLaws
+pub mod SumLaws
+pub mod Swaps
+pub mod Turns
+pub mod Walking
+pub mod TurnWalk
+pub mod Written
+pub mod Loads
+pub mod ListLaws

@@ -1,0 +1,87 @@
+-- `arena::load::load` meets its contract.
+-- The loop keeps `Loading`, that the sizes from i on are the list of the head; the measure is i.
+use borrow.Author.Needs.{needs}
+use native.Mathlib.Omega.{arith}
+use Rattle.arena.proofs.Loads.{Loading, loading-start, loading-high, loading-more, loading-done}
+use Rattle.arena.proofs.load.load.Statement.{statement}
+use Rattle.arena.proofs.load.load.Tie as tie
+
+abbrev Inv-loop : tie.InvT-loop
+Inv-loop arena₀ head first sizes levels i₀ arena i = Loading arena₀ head first sizes levels arena i
+
+abbrev μ-loop : tie.MeasureT-loop
+μ-loop arena₀ head first sizes levels i₀ arena i = i
+
+clear-head-requires : tie.Need-clear-head-requires Inv-loop μ-loop
+clear-head-requires c κs = search needs
+
+loop-holds : tie.Need-loop-holds Inv-loop μ-loop
+loop-holds c = search (needs, loading-start)
+
+sub-k : tie.Need-sub-k Inv-loop μ-loop
+sub-k c = search needs
+
+shared-slice-read-word-of : tie.Need-shared-slice-read-word-of Inv-loop μ-loop
+shared-slice-read-word-of c = search needs
+
+word-of-requires : tie.Need-word-of-requires Inv-loop μ-loop
+word-of-requires c κs = search needs
+
+mul-field : tie.Need-mul-field Inv-loop μ-loop
+mul-field c = search needs
+
+field-requires : tie.Need-field-requires Inv-loop μ-loop
+field-requires c κs = search needs
+
+mul-field-2 : tie.Need-mul-field-2 Inv-loop μ-loop
+mul-field-2 c = search needs
+
+add-field : tie.Need-add-field Inv-loop μ-loop
+add-field c = search needs
+
+field-requires-2 : tie.Need-field-requires-2 Inv-loop μ-loop
+field-requires-2 c κs = search needs
+
+add-load-record : tie.Need-add-load-record Inv-loop μ-loop
+add-load-record c = search needs
+
+load-record-requires : tie.Need-load-record-requires Inv-loop μ-loop
+load-record-requires c κs =
+    let high = loading-high _ _ _ _ _ _ _ (c .before .before .before .before .before .before .loop .inv .can) (omega arith) (c .before .before .before .word-of .ensures .0) in
+    search needs
+
+loop-less : tie.Need-loop-less Inv-loop μ-loop
+loop-less c = search needs
+
+loop-again : tie.Need-loop-again Inv-loop μ-loop
+loop-again c =
+    loading-more _ _ _ _ _ _ _ (c .before .before .before .before .before .before .before .before .before .loop .inv) (c .before .before .before .before .before .before .before .before .loop-test .taken) _ _ _ _ (c .before .before .before .before .before .before .word-of .ensures .0) (c .before .before .before .before .before .field .ensures .0) (c .before .before .before .before .field2 .ensures .0) (c .before .before .before .before .field2 .ensures .1) (c .before .before .load-record .ensures)
+
+same-length : tie.Need-same-length Inv-loop μ-loop
+same-length c = search needs
+
+returns : tie.Need-returns Inv-loop μ-loop
+returns c = search (needs, loading-done)
+
+pub load-spec : {M : Type 1} → statement M
+load-spec =
+    tie.close
+    (tie.spec
+    Inv-loop
+    μ-loop
+    clear-head-requires
+    loop-holds
+    sub-k
+    shared-slice-read-word-of
+    word-of-requires
+    mul-field
+    field-requires
+    mul-field-2
+    add-field
+    field-requires-2
+    add-load-record
+    load-record-requires
+    loop-less
+    loop-again
+    same-length
+    returns)

@@ -1,0 +1,37 @@
+-- `arena::load::load_record` meets its contract.
+-- Its stores and what it prepends are those of `loaded1`, in the same order.
+use borrow.Author.Needs.{needs}
+use Rattle.arena.proofs.Written.{stored-level, stored-loaded}
+use Rattle.arena.proofs.load.load_record.Statement.{statement}
+use Rattle.arena.proofs.load.load_record.Tie as tie
+
+store-requires : tie.Need-store-requires
+store-requires c κs = search needs
+
+store-requires-2 : tie.Need-store-requires-2
+store-requires-2 c κs = search needs
+
+store-requires-3 : tie.Need-store-requires-3
+store-requires-3 c κs = search needs
+
+prepend-requires : tie.Need-prepend-requires
+prepend-requires c κs =
+    let level-is = stored-level _ _ _ _ _ _ _ _ (c .before .before .before .before .before .before .before .before .before .before .before .store .ensures) (c .before .before .before .before .before .before .before .store2 .ensures) (c .before .before .before .store3 .ensures) (c .before .before .before .before .before .before .before .before .before .before .before .before .before .before .pre .0 .has) in
+    search needs
+
+same-length : tie.Need-same-length
+same-length c = search needs
+
+returns : tie.Need-returns
+returns c = search (needs, stored-loaded)
+
+pub load-record-spec : {M : Type 1} → statement M
+load-record-spec =
+    tie.close
+    (tie.spec
+    store-requires
+    store-requires-2
+    store-requires-3
+    prepend-requires
+    same-length
+    returns)

@@ -1,0 +1,76 @@
+-- `arena::turn::turn` meets its contract.
+-- The loop keeps `Turning`, that all records are turned if those left are; the measure is their number, counted along the first link.
+use borrow.Author.Needs.{needs}
+use mathlib.Core.Path.{refl}
+use Rattle.arena.proofs.Walking.{count}
+use Rattle.arena.proofs.TurnWalk.{Turning, cleared-summable, turning-start, turning-has, turning-can, turning-less, turning-more, turning-done}
+use Rattle.arena.proofs.turn.turn.Statement.{statement}
+use Rattle.arena.proofs.turn.turn.Tie as tie
+
+abbrev Inv-loop : tie.InvT-loop
+Inv-loop arena₀ from to sums₀ next₀ arena sums next = Turning arena₀ from to arena sums next
+
+abbrev μ-loop : tie.MeasureT-loop
+μ-loop arena₀ from to sums₀ next₀ arena sums next = count 512 arena next
+
+clear-head-requires : tie.Need-clear-head-requires Inv-loop μ-loop
+clear-head-requires c κs = search needs
+
+slice-aggregate-pass : tie.Need-slice-aggregate-pass Inv-loop μ-loop
+slice-aggregate-pass c = search needs
+
+pass-requires : tie.Need-pass-requires Inv-loop μ-loop
+pass-requires c κs = search (needs, cleared-summable)
+
+get-requires : tie.Need-get-requires Inv-loop μ-loop
+get-requires c κs = search needs
+
+loop-holds : tie.Need-loop-holds Inv-loop μ-loop
+loop-holds c =
+    turning-start _ _ _ _ _ _ _ (c .before .before .before .before .before .before .before .before .before .before .before .pre) (c .before .before .before .before .before .before .before .before .clear-head .ensures) refl (c .before .before .before .pass .ensures) (c .get .ensures) (search needs)
+
+wide-requires : tie.Need-wide-requires Inv-loop μ-loop
+wide-requires c κs = search needs
+
+get-requires-2 : tie.Need-get-requires-2 Inv-loop μ-loop
+get-requires-2 c κs = search (needs, turning-has)
+
+slice-aggregate-turn-record : tie.Need-slice-aggregate-turn-record Inv-loop μ-loop
+slice-aggregate-turn-record c = search needs
+
+turn-record-requires : tie.Need-turn-record-requires Inv-loop μ-loop
+turn-record-requires c κs =
+    turning-can _ _ _ _ _ _ (c .before .before .before .before .before .before .loop .inv) (c .before .before .before .before .before .loop-test .taken) _ (c .before .before .before .before .wide .ensures)
+
+loop-less : tie.Need-loop-less Inv-loop μ-loop
+loop-less c = search (needs, turning-less)
+
+loop-again : tie.Need-loop-again Inv-loop μ-loop
+loop-again c = search (needs, turning-more)
+
+same-length : tie.Need-same-length Inv-loop μ-loop
+same-length c = search needs
+
+returns : tie.Need-returns Inv-loop μ-loop
+returns c =
+    turning-done _ _ _ _ _ _ _ (λ i. c .before .before .before .before .before .before .before .before .before .before .before .before .slice-known .given i .fits) (c .before .before .before .before .before .before .before .before .before .before .clear-head .ensures) (c .before .loop .inv) (c .loop-test .left)
+
+pub turn-spec : {M : Type 1} → statement M
+turn-spec =
+    tie.close
+    (tie.spec
+    Inv-loop
+    μ-loop
+    clear-head-requires
+    slice-aggregate-pass
+    pass-requires
+    get-requires
+    loop-holds
+    wide-requires
+    get-requires-2
+    slice-aggregate-turn-record
+    turn-record-requires
+    loop-less
+    loop-again
+    same-length
+    returns)

@@ -1,0 +1,27 @@
+-- Document 01, "Lazy lists": the words of a record. Links are counted from 0 here: link k is the document's forward k + 1 and adjust k + 1, and a record of level l has links 0 to l - 1.
+use mathlib.Core.List.{List}
+use Prim.Native.Nat.{ℕ, _+_, _*_}
+use lib.ListN.{getD}
+
+-- "Record r is the 19 arena words from 19r."
+abbrev pub stride : ℕ
+stride = 19
+
+unfoldable pub word : List ℕ → ℕ → ℕ → ℕ
+word a r j = getD a (stride * r + j) 0
+
+-- "Word 0 is the level, 1 is m, 2 is p, 3 to 10 are forward 1 to 8, 11 to 18 are adjust 1 to 8."
+abbrev pub level : List ℕ → ℕ → ℕ
+level a r = word a r 0
+
+abbrev pub mWord : List ℕ → ℕ → ℕ
+mWord a r = word a r 1
+
+abbrev pub pWord : List ℕ → ℕ → ℕ
+pWord a r = word a r 2
+
+abbrev pub forward : List ℕ → ℕ → ℕ → ℕ
+forward a r k = word a r (3 + k)
+
+abbrev pub adjust : List ℕ → ℕ → ℕ → ℕ
+adjust a r k = word a r (11 + k)

@@ -1,0 +1,50 @@
+-- How a list of records is built at a head, from its last record to its first. No public contract cites it.
+use mathlib.Core.Path.{_≡_}
+use mathlib.Core.List.{List, [], _∷_}
+use Prim.Native.Nat.{ℕ, zero, suc, _+_, _%_, _^_, _≤_, _<_}
+use lib.ListN.{length}
+use Rattle.arena.specs.Arena.{word, level, pWord, forward, adjust}
+use Rattle.arena.specs.Chain.{Has, put, Away, Linked, trues, Same}
+
+-- Link k of record r before what follows the head h: r takes the head's forward, and the head's forward is r.
+unfoldable pub hook1 : List ℕ → ℕ → ℕ → ℕ → List ℕ
+hook1 a h r k = put (put (put a r (3 + k) (forward a h k)) r (11 + k) 0) h (3 + k) r
+
+-- The first n links of record r before what follows the head h.
+unfoldable pub hooked : ℕ → List ℕ → ℕ → ℕ → List ℕ
+hooked zero a h r = a
+hooked (suc n) a h r = hook1 (hooked n a h r) h r n
+
+-- The arena has the head h and the record r, whose number fits a word.
+pub record Hookable (a : List ℕ) (h r : ℕ) : Type 0 where
+  pub head-has : Has a h
+  pub has : Has a r
+  pub fits : r < 4_294_967_296
+
+-- A list that is being built: the records rs are the list of the head h, whose adjusts are 0.
+pub record Built (a : List ℕ) (h : ℕ) (rs : List ℕ) : Type 0 where
+  pub linked : Linked a h rs
+  pub still : (k : ℕ) → k < 8 → adjust a h k ≡ 0
+
+-- The record r can stand before the records rs of the head h.
+pub record Fresh (a : List ℕ) (h r : ℕ) (rs : List ℕ) : Type 0 where
+  pub some : 1 ≤ r
+  pub has : Has a r
+  pub low : 1 ≤ level a r
+  pub high : level a r ≤ 8
+  pub apart : r ≡ h → ⊥
+  pub away : Away r rs
+
+-- The arena b is a with record r put before the records rs, the list of the head h.
+pub record Prepended (a : List ℕ) (h r : ℕ) (rs : List ℕ) (b : List ℕ) : Type 0 where
+  pub long : length b ≡ length a
+  pub outside : (x : ℕ) → (x ≡ h → ⊥) → (x ≡ r → ⊥) → Same a b x
+  pub low : (x j : ℕ) → j < 3 → word b x j ≡ word a x j
+  pub built : Built b h (r ∷ rs)
+  pub true-p : trues b (λ k. 0) (r ∷ rs) ≡ (pWord a r % 2 ^ 32) ∷ trues a (λ k. 0) rs
+
+-- The arena b is a with record h made the head of an empty list.
+pub record Cleared (a : List ℕ) (h : ℕ) (b : List ℕ) : Type 0 where
+  pub long : length b ≡ length a
+  pub outside : (x : ℕ) → (x ≡ h → ⊥) → Same a b x
+  pub built : Built b h []

@@ -1,0 +1,6 @@
+pub mod Arena
+pub mod Lazy
+pub mod Chain
+pub mod Building
+pub mod Turning
+pub mod Loading

@@ -1,0 +1,54 @@
+-- How a list is turned: m and p change places and the order reverses. No public contract cites it.
+use mathlib.Core.Path.{_≡_}
+use mathlib.Core.List.{List, map, reverse}
+use Prim.Native.Nat.{ℕ, _≤_, _<_}
+use lib.ListN.{length, getD}
+use Rattle.arena.specs.Arena.{level, mWord, pWord, adjust}
+use Rattle.arena.specs.Chain.{Has, put, All, Away, Linked, pUnder, after, trues, Same}
+use Rattle.arena.specs.Building.{hooked, Hookable, Built}
+
+-- Running sums held in words.
+abbrev pub sumsIn : List ℕ → ℕ → ℕ
+sumsIn sums k = getD sums k 0
+
+-- A record whose level and whose eight sums can be read.
+pub record Summable (a : List ℕ) (r : ℕ) (sums : List ℕ) : Type 0 where
+  pub has : Has a r
+  pub high : level a r ≤ 8
+  pub eight : length sums ≡ 8
+
+-- The sums after record r.
+pub record Summed (a : List ℕ) (r : ℕ) (sums left : List ℕ) : Type 0 where
+  pub long : length left ≡ length sums
+  pub at : (k : ℕ) → k < 8 → getD left k 0 ≡ after a (sumsIn sums) r k
+
+-- Record r with its true p as m and its m as p.
+unfoldable pub swapped : List ℕ → (ℕ → ℕ) → ℕ → List ℕ
+swapped a f r = put (put a r 1 (pUnder a f r)) r 2 (mWord a r)
+
+-- Record r, so swapped, before the list of the head h.
+unfoldable pub turned1 : List ℕ → (ℕ → ℕ) → ℕ → ℕ → List ℕ
+turned1 a f h r = hooked (level a r) (swapped a f r) h r
+
+-- The arena has the head h, and record r can be swapped and put before its list.
+pub record Turnable1 (a : List ℕ) (h r : ℕ) (sums : List ℕ) : Type 0 where
+  pub hookable : Hookable a h r
+  pub summable : Summable a r sums
+
+-- The records rs are the list of one head, and the other head is apart from them.
+pub record Turnable (a : List ℕ) (from to : ℕ) (rs : List ℕ) : Type 0 where
+  pub linked : Linked a from rs
+  pub has : Has a to
+  pub apart : to ≡ from → ⊥
+  pub away : Away to rs
+  pub few : length rs ≤ 512
+
+-- The arena b is a with the list rs of one head turned to the list of the other.
+pub record Turned (a : List ℕ) (from to : ℕ) (rs b : List ℕ) : Type 0 where
+  pub long : length b ≡ length a
+  pub outside : (x : ℕ) → (x ≡ to → ⊥) → Away x rs → Same a b x
+  pub built : Built b to (reverse rs)
+  pub levels : All (λ x. level b x ≡ level a x) rs
+  pub m-is : map (mWord b) rs ≡ trues a (adjust a from) rs
+  pub p-is : map (pWord b) rs ≡ map (mWord a) rs
+  pub true-p : trues b (λ k. 0) (reverse rs) ≡ reverse (map (mWord a) rs)
