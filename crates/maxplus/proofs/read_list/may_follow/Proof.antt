@@ -1,0 +1,17 @@
+-- `maxplus::read_list::may_follow` meets its contract.
+use borrow.Author.Needs.{needs}
+use Rattle.maxplus.proofs.OneRecord.{follow-not, follow-if}
+use Rattle.maxplus.proofs.read_list.may_follow.Statement.{statement}
+use Rattle.maxplus.proofs.read_list.may_follow.Tie as tie
+
+returns : tie.Need-returns
+returns c = search needs
+
+returns-2 : tie.Need-returns-2
+returns-2 c = search (needs, follow-not)
+
+returns-3 : tie.Need-returns-3
+returns-3 c = search (needs, follow-if)
+
+pub may-follow-spec : {M : Type 1} → statement M
+may-follow-spec = tie.close (tie.spec returns returns-2 returns-3)
