@@ -1,0 +1,15 @@
+pub mod SearchLaws
+pub mod LiftLaws
+pub mod Raising
+pub mod DropLaws
+pub mod FirstLaws
+pub mod OpeningLaws
+pub mod SettleLaws
+pub mod FrontLaws
+pub mod Settling
+pub mod OpenLaws
+pub mod RelinkWords
+pub mod RelinkLaws
+pub mod ClosingLaws
+pub mod Relinking
+pub mod Closing

@@ -1,0 +1,222 @@
+-- What the search keeps: for each link below the present one, the last record with it in front of the whole list is the last one in front of what is left, from the present record on.
+-- A jump passes only records that have not the link, and the level is left where no record in front has it any more.
+use mathlib.Core.Path.{_≡_, refl, sym, ap, subst, _∙_}
+use mathlib.Core.Bool.{Bool, true, false, cond, _&&_, not}
+use mathlib.Core.List.{List, [], _∷_, _++_, append-assoc}
+use Prim.Native.Nat.{ℕ, zero, suc, _+_, _-_, _*_, _≤_, _<_}
+use native.Mathlib.Omega.{arith}
+use lib.ListN.{length, getD, set, length-set, length-append}
+use lib.Seq.{getD-set-same, getD-set-other}
+use lib.Dec.{leb, ltb, eqb}
+use borrow.Author.Tests.{leb-true, leb-false, le-leb, lt-leb, eqb-true, eqb-false, eq-eqb, ne-eqb}
+use Rattle.arena.specs.Arena.{stride, word, level, mWord, forward}
+use Rattle.arena.specs.Lazy.{nextWith, lastWith}
+use Rattle.arena.specs.Chain.{Has, All, Links, Member, Chain, Linked}
+use Rattle.arena.proofs.ListLaws.{last-here, last-none, last-append, has-link, Jump, jump, all-left, all-right, chain-right}
+use Rattle.arena.proofs.Walking.{count, count-is, one-list}
+use Rattle.arena.proofs.Frames.{next-here, next-past}
+use Rattle.arena.proofs.Cases.{eq-or-ne}
+use Rattle.merging.specs.Cut.{front, Falling, Searchable, CutAt, passes, Reachable}
+
+pub front-in : (a : List ℕ) (key r : ℕ) (rs : List ℕ) → key ≤ mWord a r → front a key (r ∷ rs) ≡ r ∷ front a key rs
+unfolding front
+front-in a key r rs h = simp (le-leb key (mWord a r) h)
+
+pub front-out : (a : List ℕ) (key r : ℕ) (rs : List ℕ) → mWord a r < key → front a key (r ∷ rs) ≡ []
+unfolding front
+front-out a key r rs h = simp (lt-leb key (mWord a r) h)
+
+-- Records before one that is in front are in front.
+pub front-jump : (a : List ℕ) (key r : ℕ) (xs ys : List ℕ) → Falling a (xs ++ (r ∷ ys)) → key ≤ mWord a r → front a key (xs ++ (r ∷ ys)) ≡ xs ++ (r ∷ front a key ys)
+front-jump a key r [] ys f h = front-in a key r ys h
+front-jump a key r (x ∷ xs) ys f h =
+    let above = all-right (λ z. mWord a z < mWord a x) xs (r ∷ ys) (f .0) .0 in
+    let high : key ≤ mWord a x = omega arith in
+    front-in a key x (xs ++ (r ∷ ys)) high ∙ ap (λ (l : List ℕ). x ∷ l) (front-jump a key r xs ys (f .1) h)
+
+pub falling-right : (a xs ys : List ℕ) → Falling a (xs ++ ys) → Falling a ys
+falling-right a [] ys f = f
+falling-right a (x ∷ xs) ys f = falling-right a xs ys (f .1)
+
+-- Whether r passes, in cases.
+pub passes-yes : (a : List ℕ) (r key : ℕ) → passes a r key ≡ true → (1 ≤ r) × (key ≤ mWord a r)
+unfolding passes
+passes-yes a r key e = by (leb 1 r) (leb key (mWord a r)) refl refl e
+  where
+    by : (x y : Bool) → leb 1 r ≡ x → leb key (mWord a r) ≡ y → (x && y) ≡ true → (1 ≤ r) × (key ≤ mWord a r)
+    by true true p q t = (leb-true 1 r p, leb-true key (mWord a r) q)
+    by true false p q t = absurd (let z : _≡_ {A = ℕ} 0 1 = cc in omega arith)
+    by false y p q t = absurd (let z : _≡_ {A = ℕ} 0 1 = cc in omega arith)
+
+passes-no : (a : List ℕ) (r key : ℕ) → passes a r key ≡ false → 1 ≤ r → mWord a r < key
+unfolding passes
+passes-no a r key e h =
+    leb-false key (mWord a r) (subst (λ (b : Bool). (b && leb key (mWord a r)) ≡ false) (le-leb 1 r h) e)
+
+-- Where the next record with link k does not pass, none in front has link k.
+none-in-front : (a : List ℕ) (k key : ℕ) (rs : List ℕ) → Chain a rs → Falling a rs → passes a (nextWith a k rs) key ≡ false → All (λ x. level a x ≤ k) (front a key rs)
+unfolding front
+none-in-front a k key [] c f e = tt
+none-in-front a k key (r ∷ rs) c f e =
+    has-link a k r
+    (λ h.
+    let here = next-here a k r rs h in
+    let low : mWord a r < key = passes-no a r key (subst (λ (n : ℕ). passes a n key ≡ false) here e) (c .0 .some) in
+    subst (λ (l : List ℕ). All (λ x. level a x ≤ k) l) (sym (front-out a key r rs low)) tt)
+    (λ h.
+    let past = next-past a k r rs h in
+    let rest = none-in-front a k key rs (c .1) (f .1) (subst (λ (n : ℕ). passes a n key ≡ false) past e) in
+    by (leb key (mWord a r)) h rest)
+  where
+    by : (b : Bool) → level a r ≤ k → All (λ x. level a x ≤ k) (front a key rs) → All (λ x. level a x ≤ k) (cond b (r ∷ front a key rs) [])
+    by true h n = (h, n)
+    by false h n = tt
+
+-- The state of the search: the record cur, before the records post, and the links below i still to be cut.
+pub record Going (a : List ℕ) (h key : ℕ) (cut₀ cut : List ℕ) (cur i : ℕ) : Type 0 where
+  pub rs : List ℕ
+  pub list : Searchable a h rs
+  pub post : List ℕ
+  pub inside : i ≤ 8
+  pub high : i ≤ level a cur
+  pub has : Has a cur
+  pub links : Links a cur post
+  pub chain : Chain a post
+  pub falling : Falling a post
+  pub few : length post ≤ 512
+  pub same : (k : ℕ) → k < i → lastWith a k h (front a key rs) ≡ lastWith a k cur (front a key post)
+  pub done : (k : ℕ) → i ≤ k → k < 8 → getD cut k 0 ≡ lastWith a k h (front a key rs)
+  pub long : 8 ≤ length cut
+  pub kept : length cut ≡ length cut₀
+
+pub going-start : (a : List ℕ) (h key : ℕ) (cut : List ℕ) → (rs : List ℕ) × Searchable a h rs → 8 ≤ length cut → Going a h key cut cut h 8
+going-start a h key cut r l =
+    let s = r .1 in
+    let top = s .linked .top in
+    record {
+      rs = r .0;
+      list = s;
+      post = r .0;
+      inside = omega arith;
+      high = omega arith;
+      has = s .linked .has;
+      links = s .linked .links;
+      chain = s .linked .chain;
+      falling = s .falling;
+      few = s .few;
+      same = λ k e. refl;
+      done = λ k e f. absurd (omega arith);
+      long = l;
+      kept = refl;
+    }
+
+-- One turn at the link i - 1, whose forward is nxt.
+module _ (a : List ℕ) (h key : ℕ) (cut₀ cut : List ℕ) (cur i nxt : ℕ) (g : Going a h key cut₀ cut cur i) (more : 0 < i) (e : nxt ≡ word a cur (3 + (i - 1))) where
+  is-next : nxt ≡ nextWith a (i - 1) (g .post)
+  is-next = e ∙ g .links .at (i - 1) (let x = g .high in omega arith)
+
+  step : 1 ≤ nxt → Jump a (i - 1) (g .post)
+  step s = jump a (i - 1) (g .post) (subst (λ (n : ℕ). 1 ≤ n) is-next s)
+
+  split : (s : 1 ≤ nxt) → g .post ≡ step s .before ++ (nxt ∷ step s .after)
+  split s = step s .split ∙ ap (λ (n : ℕ). step s .before ++ (n ∷ step s .after)) (sym is-next)
+
+  rest : (s : 1 ≤ nxt) → Chain a (nxt ∷ step s .after)
+  rest s = chain-right a (step s .before) (nxt ∷ step s .after) (subst (λ (l : List ℕ). Chain a l) (split s) (g .chain))
+
+  pub going-has : Reachable a nxt
+  unfolding Reachable
+  going-has s = rest s .0 .has
+
+  pub going-jump : passes a nxt key ≡ true → Going a h key cut₀ cut nxt i
+  going-jump p =
+      let yes-pass = passes-yes a nxt key p in
+      let s = yes-pass .0 in
+      let j = step s in
+      let fall = subst (λ (l : List ℕ). Falling a l) (split s) (g .falling) in
+      let link = subst (λ (n : ℕ). i - 1 < level a n) (sym is-next) (j .link) in
+      let long : length (g .post) ≡ length (j .before) + suc (length (j .after)) = ap length (split s) ∙ length-append (j .before) (nxt ∷ j .after) in
+      record {
+        rs = g .rs;
+        list = g .list;
+        post = j .after;
+        inside = g .inside;
+        high = omega arith;
+        has = rest s .0 .has;
+        links = rest s .0 .links;
+        chain = rest s .1;
+        falling = falling-right a (j .before ++ (nxt ∷ [])) (j .after) (subst (λ (l : List ℕ). Falling a l) (sym (append-assoc (j .before) (nxt ∷ []) (j .after))) fall);
+        few = let f = g .few in omega arith;
+        same = λ k below.
+            g .same k below
+            ∙ ap (λ (l : List ℕ). lastWith a k cur (front a key l)) (split s)
+            ∙ ap (lastWith a k cur) (front-jump a key nxt (j .before) (j .after) fall (yes-pass .1))
+            ∙ last-append a k cur (j .before) (nxt ∷ front a key (j .after))
+            ∙ last-here a k (lastWith a k cur (j .before)) nxt (front a key (j .after)) (omega arith);
+        done = g .done;
+        long = g .long;
+        kept = g .kept;
+      }
+
+  pub going-lower : passes a nxt key ≡ false → Going a h key cut₀ (set cut (i - 1) cur) cur (i - 1)
+  going-lower p =
+      let none = none-in-front a (i - 1) key (g .post) (g .chain) (g .falling) (subst (λ (n : ℕ). passes a n key ≡ false) is-next p) in
+      let here : cur ≡ lastWith a (i - 1) h (front a key (g .rs)) = sym (g .same (i - 1) (omega arith) ∙ last-none a (i - 1) cur (front a key (g .post)) none) in
+      let long = g .long in
+      let inside = g .inside in
+      record {
+        rs = g .rs;
+        list = g .list;
+        post = g .post;
+        inside = omega arith;
+        high = let x = g .high in omega arith;
+        has = g .has;
+        links = g .links;
+        chain = g .chain;
+        falling = g .falling;
+        few = g .few;
+        same = λ k below. g .same k (omega arith);
+        done = λ k low high. stored k low high here;
+        long = omega (arith, length-set cut (i - 1) cur);
+        kept = length-set cut (i - 1) cur ∙ g .kept;
+      }
+    where
+      stored : (k : ℕ) → i - 1 ≤ k → k < 8 → cur ≡ lastWith a (i - 1) h (front a key (g .rs)) → getD (set cut (i - 1) cur) k 0 ≡ lastWith a k h (front a key (g .rs))
+      stored k low high here =
+          eq-or-ne k (i - 1)
+          (λ same. rw same (getD-set-same cut (i - 1) cur 0 (let l = g .long in let n = g .inside in omega arith) ∙ here))
+          (λ other. getD-set-other cut (i - 1) k cur 0 other ∙ g .done k (omega arith) high)
+
+  pub going-less : passes a nxt key ≡ true → i + count 512 a (forward a nxt 0) < i + count 512 a (forward a cur 0)
+  going-less p =
+      let yes-pass = passes-yes a nxt key p in
+      let s = yes-pass .0 in
+      let j = step s in
+      let r = rest s in
+      let few = g .few in
+      let long : length (g .post) ≡ length (j .before) + suc (length (j .after)) = ap length (split s) ∙ length-append (j .before) (nxt ∷ j .after) in
+      let x = g .high in
+      let now-left = count-is 512 a (g .post) (forward a cur 0) (g .chain) (g .links .at 0 (omega arith)) few in
+      let then-left = count-is 512 a (j .after) (forward a nxt 0) (r .1) (r .0 .links .at 0 (r .0 .low)) (omega arith) in
+      omega arith
+
+pub going-done : (a : List ℕ) (h key : ℕ) (cut₀ cut : List ℕ) (cur i : ℕ) → Going a h key cut₀ cut cur i → i ≤ 0 → (rs : List ℕ) → Searchable a h rs → CutAt a h key rs cut
+going-done a h key cut₀ cut cur i g z rs s =
+    let same : g .rs ≡ rs = one-list a h (g .rs) rs (g .list .linked) (s .linked) in
+    record {
+      long = g .long;
+      at = λ k e. g .done k (omega arith) e ∙ ap (λ (l : List ℕ). lastWith a k h (front a key l)) same;
+    }
+
+-- The test of the search: a law for each way out.
+pub none-passes : (a : List ℕ) (r key : ℕ) → r ≡ 0 → false ≡ passes a r key
+unfolding passes
+none-passes a r key e = let few : r < 1 = omega arith in simp (lt-leb 1 r few)
+
+pub some-passes : (a : List ℕ) (r key m : ℕ) → (r ≡ 0 → ⊥) → m ≡ word a r 1 → leb key m ≡ passes a r key
+unfolding passes
+some-passes a r key m h e = let some : 1 ≤ r = omega arith in simp (le-leb 1 r some) (ap (leb key) e)
+
+pub reached : (a : List ℕ) (r : ℕ) → Reachable a r → (r ≡ 0 → ⊥) → Has a r
+unfolding Reachable
+reached a r h e = h (omega arith)

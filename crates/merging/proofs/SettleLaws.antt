@@ -1,0 +1,146 @@
+-- Laws of true p where the sums that enter a list change: at one link, for the records before the first with that link; or at links that no record has.
+-- A record reads the sums above its own links alone, and hands on its own adjusts below; so a change at link k is seen up to the first record with link k and not behind it.
+use mathlib.Core.Path.{_≡_, refl, sym, ap, ap₂, _∙_}
+use mathlib.Core.Bool.{false, cond}
+use mathlib.Core.List.{List, [], _∷_, _++_, map}
+use Prim.Native.Nat.{ℕ, zero, suc, _+_, _%_, _^_, _≤_, _<_}
+use native.Mathlib.Numerals.{add-one}
+use native.Mathlib.Omega.{arith}
+use lib.Dec.{leb}
+use borrow.Author.Tests.{lt-ltb, le-ltb, le-leb, lt-leb}
+use Rattle.arena.specs.Arena.{level, pWord, adjust}
+use Rattle.arena.specs.Lazy.{sumFrom}
+use Rattle.arena.specs.Chain.{wrap, All, pUnder, after, trues, leaving, Shape, Value}
+use Rattle.arena.proofs.Cases.{lt-or-ge}
+use Rattle.arena.proofs.Frames.{sum-frame, trues-frame}
+use Rattle.merging.specs.Lift.{Lifted}
+use Rattle.merging.proofs.LiftLaws.{Bumped, under-lifted, after-lifted}
+
+-- A sum over the links from l up to n reads its function there alone.
+pub sum-agree : (f g : ℕ → ℕ) (l n : ℕ) → ((j : ℕ) → l ≤ j → j < n → g j ≡ f j) → sumFrom g l n ≡ sumFrom f l n
+unfolding sumFrom
+sum-agree f g l zero e = refl
+sum-agree f g l (suc n) e =
+    lt-or-ge n l (λ p. ap₂ _+_ (sum-agree f g l n (λ j low high. e j low (omega arith))) (simp (lt-leb l n p)))
+    (λ p.
+    ap₂ _+_ (sum-agree f g l n (λ j low high. e j low (omega arith))) (ap (λ (x : ℕ). cond (leb l n) x 0) (e n p (omega arith))))
+
+pub sum-empty : (f : ℕ → ℕ) (l n : ℕ) → n ≤ l → sumFrom f l n ≡ 0
+unfolding sumFrom
+sum-empty f l zero h = refl
+sum-empty f l (suc n) h =
+    let here : leb l n ≡ false = lt-leb l n (omega arith) in simp here (omega (arith, sum-empty f l n (omega arith)))
+
+pub sum-last : (f : ℕ → ℕ) (l n : ℕ) → l ≤ n → sumFrom f l (suc n) ≡ sumFrom f l n + f n
+unfolding sumFrom
+sum-last f l n h = simp (le-leb l n h)
+
+-- Up to m and from m on.
+pub sum-split : (f : ℕ → ℕ) (l m n : ℕ) → l ≤ m → m ≤ n → sumFrom f l n ≡ sumFrom f l m + sumFrom f m n
+sum-split f l m zero low high = omega (arith, sum-empty f l zero (omega arith), sum-empty f m zero (omega arith), sum-empty f l m (omega arith))
+sum-split f l m (suc n) low high =
+    lt-or-ge n m
+    (λ p.
+    let same : m ≡ suc n = omega arith in
+    let none : sumFrom f m (suc n) ≡ 0 = sum-empty f m (suc n) (omega arith) in
+    ap (sumFrom f l) (sym same) ∙ omega arith)
+    (λ p. omega (arith, sum-last f l n (omega arith), sum-last f m n p, sum-split f l m n low p))
+
+-- The sums after a record.
+module _ (a : List ℕ) (f : ℕ → ℕ) (r j : ℕ) where
+  pub after-in : j < level a r → after a f r j ≡ adjust a r j
+  unfolding after
+  after-in h = simp (lt-ltb j (level a r) h)
+
+  pub after-out : level a r ≤ j → after a f r j ≡ f j
+  unfolding after
+  after-out h = simp (le-ltb j (level a r) h)
+
+add-both : (t x y : ℕ) → x % 2 ^ 32 ≡ y % 2 ^ 32 → (t + x) % 2 ^ 32 ≡ (t + y) % 2 ^ 32
+add-both t x y e = omega arith
+
+-- The difference of two sums over the links from n on, one link after the other.
+pub above-none : (f g : ℕ → ℕ) (n : ℕ) → (0 + sumFrom f n n) % 2 ^ 32 ≡ sumFrom g n n % 2 ^ 32
+above-none f g n =
+    let none : sumFrom f n n ≡ 0 = sum-empty f n n (omega arith) in
+    let nor : sumFrom g n n ≡ 0 = sum-empty g n n (omega arith) in
+    omega arith
+
+one-link : (d e s t x y : ℕ) → (d + s) % 2 ^ 32 ≡ t % 2 ^ 32 → (e + x) % 2 ^ 32 ≡ (d + y) % 2 ^ 32 → (e + (s + x)) % 2 ^ 32 ≡ (t + y) % 2 ^ 32
+one-link d e s t x y p q =
+    ap (λ (z : ℕ). z % 2 ^ 32) (omega arith) ∙ add-both s (e + x) (d + y) q ∙ ap (λ (z : ℕ). z % 2 ^ 32) (omega arith)
+    ∙ add-both y (d + s) t p ∙ ap (λ (z : ℕ). z % 2 ^ 32) (omega arith)
+
+pub above-next : (f g : ℕ → ℕ) (n k d e : ℕ) → n ≤ k → (d + sumFrom f n k) % 2 ^ 32 ≡ sumFrom g n k % 2 ^ 32 → (e + f k) % 2 ^ 32 ≡ (d + g k) % 2 ^ 32 → (e + sumFrom f n (k + 1)) % 2 ^ 32 ≡ sumFrom g n (k + 1) % 2 ^ 32
+above-next f g n k d e low p q =
+    ap (λ (x : ℕ). (e + x) % 2 ^ 32) (ap (sumFrom f n) (add-one k) ∙ sum-last f n k low)
+    ∙ one-link d e (sumFrom f n k) (sumFrom g n k) (f k) (g k) p q
+    ∙ ap (λ (x : ℕ). x % 2 ^ 32) (sym (ap (sumFrom g n) (add-one k) ∙ sum-last g n k low))
+
+-- The first record, if there is one, has link k: sums that differ at k alone are the same to such a list.
+abbrev pub Starts : List ℕ → ℕ → List ℕ → Type 0
+Starts a k [] = Unit {0}
+Starts a k (r ∷ rs) = k < level a r
+
+module _ (a b : List ℕ) (k : ℕ) (f g : ℕ → ℕ) (e : (j : ℕ) → j < 8 → (j ≡ k → ⊥) → g j ≡ f j) where
+  under-fresh : (r : ℕ) → k < level a r → Value a b r → pUnder b g r ≡ pUnder a f r
+  unfolding pUnder
+  under-fresh r h v =
+      ap₂ (λ (x : ℕ) (y : ℕ). (x + y) % 2 ^ 32) (v .p-kept)
+      (ap (λ (n : ℕ). sumFrom g n 8) (v .level-kept)
+      ∙ sum-agree f g (level a r) 8 (λ j low high. e j high (omega arith)))
+
+  after-fresh : (r : ℕ) → k < level a r → Value a b r → (j : ℕ) → j < 8 → after b g r j ≡ after a f r j
+  after-fresh r h v j few =
+      let same = v .level-kept in
+      lt-or-ge j (level a r)
+      (λ p. after-in b g r j (omega arith) ∙ v .adjust-kept j few ∙ sym (after-in a f r j p))
+      (λ p. after-out b g r j (omega arith) ∙ e j few (omega arith) ∙ sym (after-out a f r j p))
+
+  pub trues-fresh : (rs : List ℕ) → Starts a k rs → All (Value a b) rs → trues b g rs ≡ trues a f rs
+  unfolding trues
+  trues-fresh [] s v = refl
+  trues-fresh (r ∷ rs) s v =
+      ap₂ _∷_ (under-fresh r s (v .0))
+      (trues-frame a b (after a f r) (after b g r) rs (after-fresh r s (v .0)) (v .1))
+
+-- The list xs ++ ys, with xs raised by v at link k and the sum of k raised as it is entered, where ys starts with a record that has link k: each true p of xs is raised, and those of ys stay.
+pub trues-parted : (a b : List ℕ) (k v : ℕ) → k < 8 → (f g : ℕ → ℕ) → Bumped k v f g → (xs ys : List ℕ) → All (λ x. level a x ≤ suc k) xs → ((x : ℕ) → Shape a b x) → All (Lifted a b k v) xs → Starts a k ys → All (Value a b) ys → trues b g (xs ++ ys) ≡ map (λ (t : ℕ). wrap t v) (trues a f xs) ++ trues a (leaving a f xs) ys
+unfolding trues leaving
+trues-parted a b k v small f g bump [] ys low shape l s same = trues-fresh a b k f g (bump .other) ys s same
+trues-parted a b k v small f g bump (r ∷ xs) ys low shape l s same =
+    ap₂ _∷_ (under-lifted a b k v small f g bump r (shape r .level-kept) (l .0) (low .0))
+    (trues-parted a b k v small (after a f r) (after b g r) (after-lifted a b k v small f g bump r (shape r .level-kept) (l .0)) xs ys (low .1) shape (l .1) s same)
+
+-- Sums that differ at the links from n on, which no record has: each true p differs as those sums do.
+plain : (p s x c : ℕ) → ((p + (s + x)) % 2 ^ 32 + c) % 2 ^ 32 ≡ (p + s + (c + x)) % 2 ^ 32
+plain p s x c = omega arith
+
+module _ (a : List ℕ) (n c q : ℕ) (most : n ≤ 8) where
+  under-above : (f g : ℕ → ℕ) → ((j : ℕ) → j < n → f j ≡ g j) → (c + sumFrom f n 8) % 2 ^ 32 ≡ (q + sumFrom g n 8) % 2 ^ 32 → (r : ℕ) → level a r ≤ n → wrap (pUnder a f r) c ≡ wrap (pUnder a g r) q
+  unfolding pUnder wrap
+  under-above f g e d r low =
+      let p = pWord a r in
+      let s = sumFrom g (level a r) n in
+      let x = sumFrom f n 8 in
+      let y = sumFrom g n 8 in
+      let left : sumFrom f (level a r) 8 ≡ s + x = sum-split f (level a r) n 8 low most ∙ ap (λ (t : ℕ). t + x) (sum-frame g f (level a r) n e) in
+      let right : sumFrom g (level a r) 8 ≡ s + y = sum-split g (level a r) n 8 low most in
+      ap (λ (t : ℕ). ((p + t) % 2 ^ 32 + c) % 2 ^ 32) left ∙ plain p s x c ∙ add-both (p + s) (c + x) (q + y) d ∙ sym (plain p s y q)
+      ∙ ap (λ (t : ℕ). ((p + t) % 2 ^ 32 + q) % 2 ^ 32) (sym right)
+
+  after-below : (f g : ℕ → ℕ) → ((j : ℕ) → j < n → f j ≡ g j) → (r j : ℕ) → j < n → after a f r j ≡ after a g r j
+  after-below f g e r j h =
+      lt-or-ge j (level a r) (λ p. after-in a f r j p ∙ sym (after-in a g r j p))
+      (λ p. after-out a f r j p ∙ e j h ∙ sym (after-out a g r j p))
+
+  sum-after : (f : ℕ → ℕ) (r : ℕ) → level a r ≤ n → sumFrom (after a f r) n 8 ≡ sumFrom f n 8
+  sum-after f r low = sum-agree f (after a f r) n 8 (λ j above high. after-out a f r j (omega arith))
+
+  pub trues-above : (f g : ℕ → ℕ) → ((j : ℕ) → j < n → f j ≡ g j) → (c + sumFrom f n 8) % 2 ^ 32 ≡ (q + sumFrom g n 8) % 2 ^ 32 → (rs : List ℕ) → All (λ x. level a x ≤ n) rs → map (λ (t : ℕ). wrap t c) (trues a f rs) ≡ map (λ (t : ℕ). wrap t q) (trues a g rs)
+  unfolding trues
+  trues-above f g e d [] low = refl
+  trues-above f g e d (r ∷ rs) low =
+      let next : (c + sumFrom (after a f r) n 8) % 2 ^ 32 ≡ (q + sumFrom (after a g r) n 8) % 2 ^ 32 = ap (λ (x : ℕ). (c + x) % 2 ^ 32) (sum-after f r (low .0)) ∙ d ∙ ap (λ (x : ℕ). (q + x) % 2 ^ 32) (sym (sum-after g r (low .0))) in
+      ap₂ _∷_ (under-above f g e d r (low .0))
+      (trues-above (after a f r) (after a g r) (after-below f g e r) next rs (low .1))

@@ -1,0 +1,79 @@
+-- `merging::search::search` meets its contract: the cut of the list for the key.
+-- The loop keeps `Going`, and its measure is the present link and the records left together.
+use borrow.Author.Needs.{needs}
+use Rattle.arena.specs.Arena.{forward}
+use Rattle.arena.proofs.Walking.{count}
+use mathlib.Core.Path.{sym, _∙_}
+use Prim.Native.Nat.{_+_}
+use Rattle.merging.proofs.SearchLaws.{Going, going-start, going-has, going-jump, going-lower, going-less, going-done}
+use Rattle.merging.proofs.search.search.Statement.{statement}
+use Rattle.merging.proofs.search.search.Tie as tie
+
+abbrev Inv-loop : tie.InvT-loop
+Inv-loop arena head key cut₀ cur₀ i₀ cut cur i = Going arena head key cut₀ cut cur i
+
+abbrev μ-loop : tie.MeasureT-loop
+μ-loop arena head key cut₀ cur₀ i₀ cut cur i = i + count 512 arena (forward arena cur 0)
+
+loop-holds : tie.Need-loop-holds Inv-loop μ-loop
+loop-holds c = search (needs, going-start)
+
+sub-k : tie.Need-sub-k Inv-loop μ-loop
+sub-k c = search needs
+
+add-get : tie.Need-add-get Inv-loop μ-loop
+add-get c = search needs
+
+get-requires : tie.Need-get-requires Inv-loop μ-loop
+get-requires c κs = (c .before .loop .inv .has, search needs)
+
+wide-requires : tie.Need-wide-requires Inv-loop μ-loop
+wide-requires c κs = search needs
+
+may-pass-requires : tie.Need-may-pass-requires Inv-loop μ-loop
+may-pass-requires c κs = going-has _ _ _ _ _ _ _ _ (c .before .before .before .loop .inv) (c .before .before .loop-test .taken) (c .wide .ensures ∙ c .before .get .ensures)
+
+loop-less : tie.Need-loop-less Inv-loop μ-loop
+loop-less c = going-less _ _ _ _ _ _ _ _ (c .before .before .before .before .before .loop .inv) (c .before .before .before .before .loop-test .taken) (c .before .before .wide .ensures ∙ c .before .before .before .get .ensures) (sym (c .before .may-pass .ensures) ∙ c .if1 .taken)
+
+loop-again : tie.Need-loop-again Inv-loop μ-loop
+loop-again c = going-jump _ _ _ _ _ _ _ _ (c .before .before .before .before .before .loop .inv) (c .before .before .before .before .loop-test .taken) (c .before .before .wide .ensures ∙ c .before .before .before .get .ensures) (sym (c .before .may-pass .ensures) ∙ c .if1 .taken)
+
+mul-cut : tie.Need-mul-cut Inv-loop μ-loop
+mul-cut c = search needs
+
+slice-write-cut : tie.Need-slice-write-cut Inv-loop μ-loop
+slice-write-cut c = search needs
+
+loop-less-2 : tie.Need-loop-less-2 Inv-loop μ-loop
+loop-less-2 c = search needs
+
+loop-again-2 : tie.Need-loop-again-2 Inv-loop μ-loop
+loop-again-2 c = going-lower _ _ _ _ _ _ _ _ (c .before .before .before .before .before .loop .inv) (c .before .before .before .before .loop-test .taken) (c .before .before .wide .ensures ∙ c .before .before .before .get .ensures) (sym (c .before .may-pass .ensures) ∙ c .if1 .left)
+
+same-length : tie.Need-same-length Inv-loop μ-loop
+same-length c = c .before .loop .inv .kept
+
+returns : tie.Need-returns Inv-loop μ-loop
+returns c = search (needs, going-done)
+
+pub search-spec : {M : Type 1} → statement M
+search-spec =
+    tie.close
+    (tie.spec
+    Inv-loop
+    μ-loop
+    loop-holds
+    sub-k
+    add-get
+    get-requires
+    wide-requires
+    may-pass-requires
+    loop-less
+    loop-again
+    mul-cut
+    slice-write-cut
+    loop-less-2
+    loop-again-2
+    same-length
+    returns)

@@ -1,0 +1,39 @@
+-- Where a list is cut for a key: the records of m at least the key, which are in front since m falls, and the last record with each link among them. No public contract cites it.
+use mathlib.Core.Path.{_≡_}
+use mathlib.Core.Bool.{Bool, cond, _&&_}
+use mathlib.Core.List.{List, [], _∷_}
+use Prim.Native.Nat.{ℕ, _≤_, _<_}
+use lib.Dec.{leb}
+use lib.ListN.{length, getD}
+use Rattle.arena.specs.Arena.{mWord}
+use Rattle.arena.specs.Lazy.{lastWith}
+use Rattle.arena.specs.Chain.{Has, All, Linked}
+
+-- The first records of rs, up to the first whose m is below the key.
+unfoldable pub front : List ℕ → ℕ → List ℕ → List ℕ
+front a key [] = []
+front a key (r ∷ rs) = cond (leb key (mWord a r)) (r ∷ front a key rs) []
+
+-- m falls strictly.
+abbrev pub Falling : List ℕ → List ℕ → Type 0
+Falling a [] = Unit {0}
+Falling a (r ∷ rs) = All (λ x. mWord a x < mWord a r) rs × Falling a rs
+
+-- A list that can be searched.
+pub record Searchable (a : List ℕ) (h : ℕ) (rs : List ℕ) : Type 0 where
+  pub linked : Linked a h rs
+  pub falling : Falling a rs
+  pub few : length rs ≤ 512
+
+-- The cut of the list rs of the head h: for each link k the last record with it in front.
+pub record CutAt (a : List ℕ) (h key : ℕ) (rs cut : List ℕ) : Type 0 where
+  pub long : 8 ≤ length cut
+  pub at : (k : ℕ) → k < 8 → getD cut k 0 ≡ lastWith a k h (front a key rs)
+
+-- Whether r is a record, and its m is at least the key.
+unfoldable pub passes : List ℕ → ℕ → ℕ → Bool
+passes a r key = leb 1 r && leb key (mWord a r)
+
+-- The arena has the record r, where r is one.
+unfoldable pub Reachable : List ℕ → ℕ → Type 0
+Reachable a r = 1 ≤ r → Has a r
