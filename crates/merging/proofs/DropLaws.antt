@@ -162,6 +162,8 @@ module _ (a : List ℕ) (h r : ℕ) (rs : List ℕ) (l : Linked a h (r ∷ rs)) 
             };
         sums = head-sums;
         values = trues-frame a now-is (after a (adjust a h) r) (adjust now-is h) rs head-sums (all-map rs (λ x s. same-value a now-is x s) rest-kept);
+        m-kept = λ x.
+            eq-or-ne x h (λ e. rw e (over-low a h r other-head (l .has) (level a r) high 1 (omega arith))) (λ e. kept x e .at 1 (omega arith));
         outside = kept;
       }
 

@@ -13,3 +13,6 @@ pub mod RelinkLaws
 pub mod ClosingLaws
 pub mod Relinking
 pub mod Closing
+pub mod Advancing
+pub mod CarriedLaws
+pub mod TrioLaws

@@ -45,8 +45,12 @@ reading-turn a h cut open₀ open' k v g more other e =
 pub reading-all : (a : List ℕ) (h : ℕ) (cut open₀ open' : List ℕ) (k : ℕ) → Reading a h cut open₀ open' k → 8 ≤ k → Opened a h cut k open'
 reading-all a h cut open₀ open' k g done =
     let few = g .few in
-    record { few = few; records = g .records; ends = λ e. absurd (omega arith); sums = g .sums }
+    let long = g .long in
+    let room = g .room in
+    record { few = few; long = omega arith; records = g .records; ends = λ e. absurd (omega arith); sums = g .sums }
 
 pub reading-head : (a : List ℕ) (h : ℕ) (cut open₀ open' : List ℕ) (k : ℕ) → Reading a h cut open₀ open' k → getD cut k 0 ≡ h → Opened a h cut k open'
 reading-head a h cut open₀ open' k g e =
-    record { few = g .few; records = g .records; ends = λ f. e; sums = g .sums }
+    let long = g .long in
+    let room = g .room in
+    record { few = g .few; long = omega arith; records = g .records; ends = λ f. e; sums = g .sums }

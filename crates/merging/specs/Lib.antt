@@ -4,3 +4,6 @@ pub mod Dropping
 pub mod Opening
 pub mod Open
 pub mod Settled
+pub mod Advance
+pub mod Carried
+pub mod Trio

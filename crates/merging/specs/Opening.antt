@@ -14,6 +14,7 @@ pub record Readable (a cut : List ℕ) : Type 0 where
 -- The first n places of the cut are other records than the head, and the place after them is the head; open has their adjusts.
 pub record Opened (a : List ℕ) (h : ℕ) (cut : List ℕ) (n : ℕ) (open' : List ℕ) : Type 0 where
   pub few : n ≤ 8
+  pub long : 8 ≤ length open'
   pub records : (k : ℕ) → k < n → getD cut k 0 ≡ h → ⊥
   pub ends : n < 8 → getD cut n 0 ≡ h
   pub sums : (k : ℕ) → k < n → getD open' k 0 ≡ adjust a (getD cut k 0) k

@@ -1,4 +1,5 @@
 // The maxplus merge of two lazy lists in an arena: its parts, each proved with its effect on the lists.
+mod advance;
 mod close;
 mod drop_first;
 mod first_p;

@@ -1,0 +1,65 @@
+-- `merging::advance::advance` meets its contract: the front stands behind the open list, raised, and the list keeps the rest.
+-- The four calls are those whose effects `Advancing` puts together.
+use mathlib.Core.List.{_∷_}
+use Rattle.merging.proofs.Advancing.{cut-readable, can-settle, can-relink, moved}
+use borrow.Author.Needs.{needs}
+use Rattle.merging.proofs.advance.advance.Statement.{statement}
+use Rattle.merging.proofs.advance.advance.Tie as tie
+
+slice-aggregate-search : tie.Need-slice-aggregate-search
+slice-aggregate-search c = search needs
+
+search-requires : tie.Need-search-requires
+search-requires c κs = search needs
+
+slice-aggregate-open-sums : tie.Need-slice-aggregate-open-sums
+slice-aggregate-open-sums c = search needs
+
+slice-aggregate-open-sums-2 : tie.Need-slice-aggregate-open-sums-2
+slice-aggregate-open-sums-2 c = search needs
+
+open-sums-requires : tie.Need-open-sums-requires
+open-sums-requires c κs = (cut-readable _ _ (c .before .before .before .before .before .before .before .before .before .pre .0) _ (c .before .before .before .before .before .before .before .before .before .pre .1) (c .before .before .before .before .before .before .before .before .before .pre .2) (c .before .before .before .before .before .before .before .before .before .pre .3) _ (c .before .before .before .before .before .before .before .before .before .pre .4) _ (c .before .before .before .before .search .ensures (c .before .before .before .before .before .before .before .before .before .pre .2 ∷ c .before .before .before .before .before .before .before .before .before .pre .3) (c .before .before .before .before .before .before .before .before .before .pre .4 .list)), search needs)
+
+slice-aggregate-settle : tie.Need-slice-aggregate-settle
+slice-aggregate-settle c = search needs
+
+settle-requires : tie.Need-settle-requires
+settle-requires c κs = (_, _, can-settle _ _ (c .before .before .before .before .before .before .before .before .before .before .before .before .before .before .pre .0) _ (c .before .before .before .before .before .before .before .before .before .before .before .before .before .before .pre .1) (c .before .before .before .before .before .before .before .before .before .before .before .before .before .before .pre .2) (c .before .before .before .before .before .before .before .before .before .before .before .before .before .before .pre .3) _ (c .before .before .before .before .before .before .before .before .before .before .before .before .before .before .pre .4) _ (c .before .before .before .before .before .before .before .before .before .search .ensures (c .before .before .before .before .before .before .before .before .before .before .before .before .before .before .pre .2 ∷ c .before .before .before .before .before .before .before .before .before .before .before .before .before .before .pre .3) (c .before .before .before .before .before .before .before .before .before .before .before .before .before .before .pre .4 .list)) _ _ (c .before .before .before .before .open-sums .ensures))
+
+slice-aggregate-relink : tie.Need-slice-aggregate-relink
+slice-aggregate-relink c = search needs
+
+slice-aggregate-relink-2 : tie.Need-slice-aggregate-relink-2
+slice-aggregate-relink-2 c = search needs
+
+relink-requires : tie.Need-relink-requires
+relink-requires c κs = (c .before .before .before .before .before .before .before .before .before .before .before .before .before .before .before .before .before .before .before .before .before .pre .0, c .before .before .before .before .before .before .before .before .before .before .before .before .before .before .before .before .before .before .before .before .before .pre .1, _, _, can-relink _ _ (c .before .before .before .before .before .before .before .before .before .before .before .before .before .before .before .before .before .before .before .before .before .pre .0) _ (c .before .before .before .before .before .before .before .before .before .before .before .before .before .before .before .before .before .before .before .before .before .pre .1) (c .before .before .before .before .before .before .before .before .before .before .before .before .before .before .before .before .before .before .before .before .before .pre .2) (c .before .before .before .before .before .before .before .before .before .before .before .before .before .before .before .before .before .before .before .before .before .pre .3) _ (c .before .before .before .before .before .before .before .before .before .before .before .before .before .before .before .before .before .before .before .before .before .pre .4) _ (c .before .before .before .before .before .before .before .before .before .before .before .before .before .before .before .before .search .ensures (c .before .before .before .before .before .before .before .before .before .before .before .before .before .before .before .before .before .before .before .before .before .pre .2 ∷ c .before .before .before .before .before .before .before .before .before .before .before .before .before .before .before .before .before .before .before .before .before .pre .3) (c .before .before .before .before .before .before .before .before .before .before .before .before .before .before .before .before .before .before .before .before .before .pre .4 .list)) _ _ (c .before .before .before .before .before .before .before .before .before .before .before .open-sums .ensures) _ _ (c .before .before .before .before .before .before .settle .ensures _ _ (can-settle _ _ (c .before .before .before .before .before .before .before .before .before .before .before .before .before .before .before .before .before .before .before .before .before .pre .0) _ (c .before .before .before .before .before .before .before .before .before .before .before .before .before .before .before .before .before .before .before .before .before .pre .1) (c .before .before .before .before .before .before .before .before .before .before .before .before .before .before .before .before .before .before .before .before .before .pre .2) (c .before .before .before .before .before .before .before .before .before .before .before .before .before .before .before .before .before .before .before .before .before .pre .3) _ (c .before .before .before .before .before .before .before .before .before .before .before .before .before .before .before .before .before .before .before .before .before .pre .4) _ (c .before .before .before .before .before .before .before .before .before .before .before .before .before .before .before .before .search .ensures (c .before .before .before .before .before .before .before .before .before .before .before .before .before .before .before .before .before .before .before .before .before .pre .2 ∷ c .before .before .before .before .before .before .before .before .before .before .before .before .before .before .before .before .before .before .before .before .before .pre .3) (c .before .before .before .before .before .before .before .before .before .before .before .before .before .before .before .before .before .before .before .before .before .pre .4 .list)) _ _ (c .before .before .before .before .before .before .before .before .before .before .before .open-sums .ensures))))
+
+same-length : tie.Need-same-length
+same-length c = search needs
+
+same-length-2 : tie.Need-same-length-2
+same-length-2 c = search needs
+
+returns : tie.Need-returns
+returns c hc cs r rs w =
+    moved _ _ hc _ cs r rs _ w _ (c .before .before .before .before .before .before .before .before .before .before .before .before .before .before .before .before .before .before .before .before .before .search .ensures (r ∷ rs) (w .list)) _ _ (c .before .before .before .before .before .before .before .before .before .before .before .before .before .before .before .before .open-sums .ensures) _ _ (c .before .before .before .before .before .before .before .before .before .before .before .settle .ensures _ _ (can-settle _ _ hc _ cs r rs _ w _ (c .before .before .before .before .before .before .before .before .before .before .before .before .before .before .before .before .before .before .before .before .before .search .ensures (r ∷ rs) (w .list)) _ _ (c .before .before .before .before .before .before .before .before .before .before .before .before .before .before .before .before .open-sums .ensures))) _ _ (c .before .before .before .before .relink .ensures hc cs _ _ (can-relink _ _ hc _ cs r rs _ w _ (c .before .before .before .before .before .before .before .before .before .before .before .before .before .before .before .before .before .before .before .before .before .search .ensures (r ∷ rs) (w .list)) _ _ (c .before .before .before .before .before .before .before .before .before .before .before .before .before .before .before .before .open-sums .ensures) _ _ (c .before .before .before .before .before .before .before .before .before .before .before .settle .ensures _ _ (can-settle _ _ hc _ cs r rs _ w _ (c .before .before .before .before .before .before .before .before .before .before .before .before .before .before .before .before .before .before .before .before .before .search .ensures (r ∷ rs) (w .list)) _ _ (c .before .before .before .before .before .before .before .before .before .before .before .before .before .before .before .before .open-sums .ensures)))))
+
+pub advance-spec : {M : Type 1} → statement M
+advance-spec =
+    tie.close
+    (tie.spec
+    slice-aggregate-search
+    search-requires
+    slice-aggregate-open-sums
+    slice-aggregate-open-sums-2
+    open-sums-requires
+    slice-aggregate-settle
+    settle-requires
+    slice-aggregate-relink
+    slice-aggregate-relink-2
+    relink-requires
+    same-length
+    same-length-2
+    returns)

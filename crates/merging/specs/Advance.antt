@@ -1,0 +1,40 @@
+-- Moving the records in front of a list, not below a key, behind an open list, with every true p raised by q. No public contract cites it.
+use mathlib.Core.Path.{_≡_}
+use mathlib.Core.Bool.{cond}
+use mathlib.Core.List.{List, [], _∷_, _++_, map}
+use Prim.Native.Nat.{ℕ, _≤_, _<_}
+use lib.Dec.{leb}
+use lib.ListN.{length}
+use Rattle.arena.specs.Arena.{level, mWord, adjust}
+use Rattle.arena.specs.Chain.{wrap, All, Away, Linked, trues, leaving, Same}
+use Rattle.merging.specs.Cut.{front, Searchable}
+use Rattle.merging.specs.Open.{OpenLinked, CutC}
+
+-- The records of rs from the first whose m is below the key on.
+unfoldable pub behind : List ℕ → ℕ → List ℕ → List ℕ
+behind a key [] = []
+behind a key (r ∷ rs) = cond (leb key (mWord a r)) (behind a key rs) (r ∷ rs)
+
+-- The list rs of the head h, whose first record r is not below the key, and the open list cs of the head hc share nothing.
+pub record Movable (a : List ℕ) (h hc key : ℕ) (cs : List ℕ) (r : ℕ) (rs cutc : List ℕ) : Type 0 where
+  pub list : Searchable a h (r ∷ rs)
+  pub first : key ≤ mWord a r
+  pub result : OpenLinked a hc cs
+  pub ends : CutC a hc cs cutc
+  pub heads : h ≡ hc → ⊥
+  pub head-away : Away h cs
+  pub result-away : Away hc (r ∷ rs)
+  pub apart : All (λ x. Away x (r ∷ rs)) cs
+
+-- The records fr in front were moved, and back are left.
+pub record Moved (a b : List ℕ) (h hc q : ℕ) (cs fr back cutd : List ℕ) : Type 0 where
+  pub length-kept : length b ≡ length a
+  pub list : Linked b h back
+  pub result : OpenLinked b hc (cs ++ fr)
+  pub ends : CutC b hc (cs ++ fr) cutd
+  pub level-kept : (x : ℕ) → level b x ≡ level a x
+  pub m-kept : (x : ℕ) → mWord b x ≡ mWord a x
+  pub values : trues b (adjust b hc) (cs ++ fr) ≡ trues a (adjust a hc) cs ++ map (λ (t : ℕ). wrap t q) (trues a (adjust a h) fr)
+  pub rest-values : trues b (adjust b h) back ≡ trues a (leaving a (adjust a h) fr) back
+  pub result-sums : (k : ℕ) → k < 8 → adjust b hc k ≡ adjust a hc k
+  pub outside : (x : ℕ) → (h ≡ x → ⊥) → (hc ≡ x → ⊥) → Away x cs → Away x fr → Same a b x
