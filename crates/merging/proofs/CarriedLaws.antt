@@ -16,7 +16,7 @@ use Rattle.merging.specs.Cut.{front}
 use Rattle.merging.specs.Carried.{paired, carried}
 use Rattle.merging.proofs.Advancing.{trues-append}
 
-trues-length : (a : List ℕ) (f : ℕ → ℕ) (rs : List ℕ) → length (trues a f rs) ≡ length rs
+pub trues-length : (a : List ℕ) (f : ℕ → ℕ) (rs : List ℕ) → length (trues a f rs) ≡ length rs
 unfolding trues
 trues-length a f [] = refl
 trues-length a f (r ∷ rs) = ap suc (trues-length a (after a f r) rs)

@@ -16,3 +16,5 @@ pub mod Closing
 pub mod Advancing
 pub mod CarriedLaws
 pub mod TrioLaws
+pub mod Steps
+pub mod Within

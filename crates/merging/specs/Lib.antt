@@ -7,3 +7,4 @@ pub mod Settled
 pub mod Advance
 pub mod Carried
 pub mod Trio
+pub mod Running

@@ -1,0 +1,62 @@
+-- Each step of the merge touches the records of the two lists and the three heads alone.
+-- A step touches the run that it moves, the result and two heads, and all of these come from the lists that the merge began with.
+use mathlib.Core.Path.{_≡_, refl, sym, subst, _∙_}
+use mathlib.Core.List.{List, [], _∷_, _++_}
+use Prim.Native.Nat.{ℕ}
+use Rattle.arena.specs.Arena.{mWord}
+use Rattle.arena.specs.Chain.{All, Away, Same}
+use Rattle.arena.proofs.ListLaws.{all-left, all-right}
+use Rattle.arena.proofs.PutLaws.{same-trans}
+use Rattle.merging.specs.Cut.{front}
+use Rattle.merging.specs.Advance.{behind, Moved}
+use Rattle.merging.specs.Dropping.{Dropped}
+use Rattle.merging.specs.Running.{Within}
+use Rattle.merging.proofs.Advancing.{front-behind}
+use Rattle.merging.proofs.OpenLaws.{all-append}
+
+module _ (a₀ a b : List ℕ) (ho hn hc key q r : ℕ) (xs₀ ys₀ xs ys cs ends' : List ℕ) (w : Within a₀ a ho hn hc xs₀ ys₀ (r ∷ xs) ys cs) (d : Moved a b ho hc q cs (front a key (r ∷ xs)) (behind a key (r ∷ xs)) ends') where
+  abbrev fr : List ℕ
+  fr = front a key (r ∷ xs)
+
+  abbrev back : List ℕ
+  back = behind a key (r ∷ xs)
+
+  parted : (x : ℕ) → Away x (r ∷ xs) → Away x (fr ++ back)
+  parted x h = subst (λ (l : List ℕ). Away x l) (front-behind a key (r ∷ xs)) h
+
+  off-run : (x : ℕ) → Away x (r ∷ xs) → Away x fr
+  off-run x h = all-left (λ z. z ≡ x → ⊥) fr back (parted x h)
+
+  off-rest : (x : ℕ) → Away x (r ∷ xs) → Away x back
+  off-rest x h = all-right (λ z. z ≡ x → ⊥) fr back (parted x h)
+
+  pub within-moved : Within a₀ b ho hn hc xs₀ ys₀ back ys (cs ++ fr)
+  within-moved =
+      record {
+        length-kept = d .length-kept ∙ w .length-kept;
+        m-kept = λ x. d .m-kept x ∙ w .m-kept x;
+        records = λ x u v.
+            let off = w .records x u v in
+            (off-rest x (off .0), off .1, all-append (λ z. z ≡ x → ⊥) cs fr (off .2) (off-run x (off .0)));
+        outside = λ x o n c u v.
+            let off = w .records x u v in
+            same-trans a₀ a b x (w .outside x o n c u v) (d .outside x o c (off .2) (off-run x (off .0)));
+      }
+
+pub within-swap : (a₀ a : List ℕ) (ho hn hc : ℕ) (xs₀ ys₀ xs ys cs : List ℕ) → Within a₀ a ho hn hc xs₀ ys₀ xs ys cs → Within a₀ a hn ho hc ys₀ xs₀ ys xs cs
+within-swap a₀ a ho hn hc xs₀ ys₀ xs ys cs w =
+    record {
+      length-kept = w .length-kept;
+      m-kept = w .m-kept;
+      records = λ x u v. let off = w .records x v u in (off .1, off .0, off .2);
+      outside = λ x n o c u v. w .outside x o n c v u;
+    }
+
+pub within-dropped : (a₀ a b : List ℕ) (ho hn hc y : ℕ) (xs₀ ys₀ xs ys cs : List ℕ) → Within a₀ a ho hn hc xs₀ ys₀ xs (y ∷ ys) cs → Dropped a b hn y ys → Within a₀ b ho hn hc xs₀ ys₀ xs ys cs
+within-dropped a₀ a b ho hn hc y xs₀ ys₀ xs ys cs w d =
+    record {
+      length-kept = d .length-kept ∙ w .length-kept;
+      m-kept = λ x. d .m-kept x ∙ w .m-kept x;
+      records = λ x u v. let off = w .records x u v in (off .0, off .1 .1, off .2);
+      outside = λ x o n c u v. same-trans a₀ a b x (w .outside x o n c u v) (d .outside x (λ e. n (sym e)));
+    }
