@@ -4,7 +4,7 @@ use mathlib.Core.Path.{_≡_, refl, sym, ap, subst, _∙_}
 use mathlib.Core.List.{List, [], _∷_, _++_, map}
 use Prim.Native.Nat.{ℕ, zero, suc, _+_, _-_, _≤_, _<_}
 use native.Mathlib.Omega.{arith}
-use lib.ListN.{length, getD}
+use lib.ListN.{length, getD, length-append}
 use lib.Dec.{leb}
 use borrow.Author.Tests.{le-leb, lt-leb}
 use Rattle.arena.specs.Arena.{level, mWord, pWord, forward, adjust}
@@ -31,6 +31,13 @@ front-behind a key [] = refl
 front-behind a key (r ∷ rs) =
     lt-or-ge (mWord a r) key (λ h. simp (lt-leb key (mWord a r) h))
     (λ h. simp (le-leb key (mWord a r) h) (ap (λ (l : List ℕ). r ∷ l) (front-behind a key rs)))
+
+-- The rest is shorter where the first record is in front.
+pub behind-shorter : (a : List ℕ) (key r : ℕ) (rs : List ℕ) → key ≤ mWord a r → length (behind a key (r ∷ rs)) < length (r ∷ rs)
+behind-shorter a key r rs tops =
+    let whole : length (r ∷ rs) ≡ length (front a key (r ∷ rs)) + length (behind a key (r ∷ rs)) = ap length (front-behind a key (r ∷ rs)) ∙ length-append (front a key (r ∷ rs)) (behind a key (r ∷ rs)) in
+    let some : 1 ≤ length (front a key (r ∷ rs)) = subst (λ (l : List ℕ). 1 ≤ length l) (sym (front-in a key r rs tops)) (omega arith) in
+    omega arith
 
 pub trues-append : (a : List ℕ) (f : ℕ → ℕ) (xs ys : List ℕ) → trues a f (xs ++ ys) ≡ trues a f xs ++ trues a (leaving a f xs) ys
 unfolding trues leaving

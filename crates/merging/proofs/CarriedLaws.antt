@@ -11,7 +11,8 @@ use Rattle.slicing.specs.Item.{Item, size}
 use Rattle.slicing.specs.Recorded.{Recorded}
 use Rattle.slicing.proofs.Batch.{raisedOlder, raisedNewer}
 use Rattle.arena.specs.Arena.{level, mWord}
-use Rattle.arena.specs.Chain.{wrap, All, pUnder, after, trues, leaving}
+use Rattle.arena.specs.Chain.{wrap, All, pUnder, after, trues, leaving, Same}
+use Rattle.arena.proofs.Frames.{all-map, all-refl, same-value, trues-frame}
 use Rattle.merging.specs.Cut.{front}
 use Rattle.merging.specs.Carried.{paired, carried}
 use Rattle.merging.proofs.Advancing.{trues-append}
@@ -28,12 +29,12 @@ paired-append a (x ∷ xs) ys [] qs e = absurd (omega arith)
 paired-append a (x ∷ xs) ys (p ∷ ps) qs e =
     ap (λ (l : List Recorded). record { number = x; item = size (mWord a x) p } ∷ l) (paired-append a xs ys ps qs (omega arith))
 
-paired-frame : (a b rs ps : List ℕ) → ((x : ℕ) → mWord b x ≡ mWord a x) → paired b rs ps ≡ paired a rs ps
+paired-frame : (a b rs ps : List ℕ) → All (λ x. mWord b x ≡ mWord a x) rs → paired b rs ps ≡ paired a rs ps
 paired-frame a b [] ps e = refl
 paired-frame a b (r ∷ rs) [] e = refl
 paired-frame a b (r ∷ rs) (p ∷ ps) e =
-    ap (λ (m : ℕ). record { number = r; item = size m p } ∷ paired b rs ps) (e r)
-    ∙ ap (λ (l : List Recorded). record { number = r; item = size (mWord a r) p } ∷ l) (paired-frame a b rs ps e)
+    ap (λ (m : ℕ). record { number = r; item = size m p } ∷ paired b rs ps) (e .0)
+    ∙ ap (λ (l : List Recorded). record { number = r; item = size (mWord a r) p } ∷ l) (paired-frame a b rs ps (e .1))
 
 pub carried-append : (a : List ℕ) (f : ℕ → ℕ) (xs ys : List ℕ) → carried a f (xs ++ ys) ≡ carried a f xs ++ carried a (leaving a f xs) ys
 unfolding carried
@@ -44,7 +45,14 @@ carried-append a f xs ys =
 -- The same m and the same true p.
 pub carried-frame : (a b : List ℕ) (f g : ℕ → ℕ) (rs : List ℕ) → ((x : ℕ) → mWord b x ≡ mWord a x) → trues b g rs ≡ trues a f rs → carried b g rs ≡ carried a f rs
 unfolding carried
-carried-frame a b f g rs e t = paired-frame a b rs (trues b g rs) e ∙ ap (paired a rs) t
+carried-frame a b f g rs e t = paired-frame a b rs (trues b g rs) (all-refl rs e) ∙ ap (paired a rs) t
+
+-- The records are as they were, and so are the sums that enter them.
+pub carried-same : (a b : List ℕ) (f g : ℕ → ℕ) (rs : List ℕ) → ((k : ℕ) → k < 8 → g k ≡ f k) → All (Same a b) rs → carried b g rs ≡ carried a f rs
+unfolding carried
+carried-same a b f g rs sums same =
+    paired-frame a b rs (trues b g rs) (all-map rs (λ x s. s .at 1 (omega arith)) same)
+    ∙ ap (paired a rs) (trues-frame a b f g rs sums (all-map rs (λ x s. same-value a b x s) same))
 
 -- Each p of a list of items, with q, stays below 2^32.
 abbrev pub Below : ℕ → List Recorded → Type 0
@@ -79,7 +87,7 @@ module _ (a b : List ℕ) (f g h : ℕ → ℕ) (cs fr : List ℕ) (z : Recorded
   moved-pairs : carried b g (cs ++ fr) ≡ carried a f cs ++ paired a fr (map (λ (t : ℕ). wrap t (z .item .p)) (trues a h fr))
   unfolding carried
   moved-pairs =
-      paired-frame a b (cs ++ fr) (trues b g (cs ++ fr)) same ∙ ap (paired a (cs ++ fr)) values
+      paired-frame a b (cs ++ fr) (trues b g (cs ++ fr)) (all-refl (cs ++ fr) same) ∙ ap (paired a (cs ++ fr)) values
       ∙ paired-append a cs fr (trues a f cs) (map (λ (t : ℕ). wrap t (z .item .p)) (trues a h fr)) (trues-length a f cs)
 
   pub moved-older : carried b g (cs ++ fr) ≡ carried a f cs ++ raisedOlder 0 z (carried a h fr)

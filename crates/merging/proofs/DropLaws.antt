@@ -162,6 +162,8 @@ module _ (a : List ℕ) (h r : ℕ) (rs : List ℕ) (l : Linked a h (r ∷ rs)) 
             };
         sums = head-sums;
         values = trues-frame a now-is (after a (adjust a h) r) (adjust now-is h) rs head-sums (all-map rs (λ x s. same-value a now-is x s) rest-kept);
+        level-kept = λ x.
+            eq-or-ne x h (λ e. rw e (over-low a h r other-head (l .has) (level a r) high 0 (omega arith))) (λ e. kept x e .at 0 (omega arith));
         m-kept = λ x.
             eq-or-ne x h (λ e. rw e (over-low a h r other-head (l .has) (level a r) high 1 (omega arith))) (λ e. kept x e .at 1 (omega arith));
         outside = kept;
@@ -176,7 +178,7 @@ pub record Handing (a₀ a : List ℕ) (h r n k : ℕ) : Type 0 where
   pub kept : length a ≡ length a₀
   pub is : a ≡ handedOver k a₀ h r
 
-same-first : (a : List ℕ) (h r x : ℕ) (rs : List ℕ) → Linked a h (x ∷ rs) → r ≡ word a h 3 → r ≡ x
+pub same-first : (a : List ℕ) (h r x : ℕ) (rs : List ℕ) → Linked a h (x ∷ rs) → r ≡ word a h 3 → r ≡ x
 same-first a h r x rs l e =
     e ∙ l .links .at 0 (let t = l .top in omega arith) ∙ next-here a 0 x rs (l .chain .0 .low)
 

@@ -17,4 +17,10 @@ pub mod Advancing
 pub mod CarriedLaws
 pub mod TrioLaws
 pub mod Steps
-pub mod Within
+pub mod Confined
+pub mod NewerStep
+pub mod OlderStep
+pub mod Stepping
+pub mod RunsLaws
+pub mod HeldLaws
+pub mod MergeLaws

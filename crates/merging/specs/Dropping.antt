@@ -3,7 +3,7 @@ use mathlib.Core.Path.{_≡_}
 use mathlib.Core.List.{List, _∷_}
 use Prim.Native.Nat.{ℕ, zero, suc, _+_, _<_}
 use lib.ListN.{length}
-use Rattle.arena.specs.Arena.{word, mWord, adjust}
+use Rattle.arena.specs.Arena.{word, level, mWord, adjust}
 use Rattle.arena.specs.Chain.{put, Linked, trues, after, Same}
 
 -- Link k of the head h as that of r.
@@ -20,5 +20,6 @@ pub record Dropped (a b : List ℕ) (h r : ℕ) (rs : List ℕ) : Type 0 where
   pub linked : Linked b h rs
   pub sums : (k : ℕ) → k < 8 → adjust b h k ≡ after a (adjust a h) r k
   pub values : trues b (adjust b h) rs ≡ trues a (after a (adjust a h) r) rs
+  pub level-kept : (x : ℕ) → level b x ≡ level a x
   pub m-kept : (x : ℕ) → mWord b x ≡ mWord a x
   pub outside : (x : ℕ) → (x ≡ h → ⊥) → Same a b x

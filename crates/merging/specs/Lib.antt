@@ -8,3 +8,4 @@ pub mod Advance
 pub mod Carried
 pub mod Trio
 pub mod Running
+pub mod Merge

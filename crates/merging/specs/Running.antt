@@ -1,11 +1,13 @@
 -- A merge while it runs: what is finished stands in the open result, and the merge of what waits gives the rest. No public contract cites it.
 use mathlib.Core.Path.{_≡_}
-use mathlib.Core.List.{List, _++_, List·Memᴰ}
-use Prim.Native.Nat.{ℕ, _+_, _^_, _<_}
+use mathlib.Core.List.{List, _∷_, _++_, List·Memᴰ}
+use mathlib.Core.Bool.{Bool, _&&_}
+use Prim.Native.Nat.{ℕ, _+_, _^_, _≤_, _<_}
+use lib.Dec.{leb}
 use lib.ListN.{length}
 use Rattle.slicing.specs.Good.{Ordered}
 use Rattle.slicing.specs.Recorded.{Recorded, mergeRecorded, items}
-use Rattle.arena.specs.Arena.{mWord, adjust}
+use Rattle.arena.specs.Arena.{level, mWord, forward, adjust}
 use Rattle.arena.specs.Chain.{All, Away, Same}
 use Rattle.merging.specs.Carried.{carried}
 use Rattle.merging.specs.Trio.{Trio}
@@ -25,16 +27,18 @@ pub record Running (a : List ℕ) (ho hn hc : ℕ) (xs ys cs ends : List ℕ) (a
   pub gives : carried a (adjust a hc) cs ++ mergeRecorded 0 (carried a (adjust a ho) xs) (carried a (adjust a hn) ys) ≡ all
 
 -- The merge began in the arena a₀ with the lists xs₀ and ys₀, and has touched their records and the three heads alone.
-pub record Within (a₀ a : List ℕ) (ho hn hc : ℕ) (xs₀ ys₀ xs ys cs : List ℕ) : Type 0 where
+pub record Confined (a₀ a : List ℕ) (ho hn hc : ℕ) (xs₀ ys₀ xs ys cs : List ℕ) : Type 0 where
   pub length-kept : length a ≡ length a₀
+  pub level-kept : (x : ℕ) → level a x ≡ level a₀ x
   pub m-kept : (x : ℕ) → mWord a x ≡ mWord a₀ x
+  pub result-sums : (k : ℕ) → k < 8 → adjust a hc k ≡ adjust a₀ hc k
   pub records : (x : ℕ) → Away x xs₀ → Away x ys₀ → Away x xs × Away x ys × Away x cs
   pub outside : (x : ℕ) → (ho ≡ x → ⊥) → (hn ≡ x → ⊥) → (hc ≡ x → ⊥) → Away x xs₀ → Away x ys₀ → Same a₀ a x
 
 -- A merge on its way: what waits, what is finished, and what it has left alone.
 pub record Merging (a₀ a : List ℕ) (ho hn hc : ℕ) (xs₀ ys₀ xs ys cs ends : List ℕ) (all : List Recorded) : Type 0 where
   pub runs : Running a ho hn hc xs ys cs ends all
-  pub within : Within a₀ a ho hn hc xs₀ ys₀ xs ys cs
+  pub confined : Confined a₀ a ho hn hc xs₀ ys₀ xs ys cs
 
 -- It is on its way with fewer than n records that wait.
 pub record Further (a₀ a : List ℕ) (ho hn hc : ℕ) (xs₀ ys₀ ends : List ℕ) (all : List Recorded) (n : ℕ) : Type 0 where
@@ -43,3 +47,51 @@ pub record Further (a₀ a : List ℕ) (ho hn hc : ℕ) (xs₀ ys₀ ends : List
   pub cs : List ℕ
   pub merging : Merging a₀ a ho hn hc xs₀ ys₀ xs ys cs ends all
   pub fewer : length xs + length ys < n
+
+-- The older list's first m is smaller than the newer's.
+abbrev pub NewerReady : List ℕ → ℕ → ℕ → List ℕ → Type 0
+NewerReady a ho hn ends =
+    (hc : ℕ) × (r : ℕ) × (xs : List ℕ) × (s : ℕ) × (ys : List ℕ) × (cs : List ℕ) × (all : List Recorded) × Running a ho hn hc (r ∷ xs) (s ∷ ys) cs ends all × (mWord a r < mWord a s)
+
+abbrev pub NewerDone : (a b : List ℕ) (ho hn : ℕ) (ends ends' : List ℕ) → Type 0
+NewerDone a b ho hn ends ends' =
+    (a₀ : List ℕ) (hc : ℕ) (xs₀ ys₀ : List ℕ) (r : ℕ) (xs : List ℕ) (s : ℕ) (ys cs : List ℕ) (all : List Recorded) → Merging a₀ a ho hn hc xs₀ ys₀ (r ∷ xs) (s ∷ ys) cs ends all → mWord a r < mWord a s → Further a₀ b ho hn hc xs₀ ys₀ ends' all (length (r ∷ xs) + length (s ∷ ys))
+
+-- The older list's first m is at least the newer's.
+abbrev pub OlderReady : List ℕ → ℕ → ℕ → List ℕ → Type 0
+OlderReady a ho hn ends =
+    (hc : ℕ) × (r : ℕ) × (xs : List ℕ) × (s : ℕ) × (ys : List ℕ) × (cs : List ℕ) × (all : List Recorded) × Running a ho hn hc (r ∷ xs) (s ∷ ys) cs ends all × (mWord a s ≤ mWord a r)
+
+abbrev pub OlderDone : (a b : List ℕ) (ho hn : ℕ) (ends ends' : List ℕ) → Type 0
+OlderDone a b ho hn ends ends' =
+    (a₀ : List ℕ) (hc : ℕ) (xs₀ ys₀ : List ℕ) (r : ℕ) (xs : List ℕ) (s : ℕ) (ys cs : List ℕ) (all : List Recorded) → Merging a₀ a ho hn hc xs₀ ys₀ (r ∷ xs) (s ∷ ys) cs ends all → mWord a s ≤ mWord a r → Further a₀ b ho hn hc xs₀ ys₀ ends' all (length (r ∷ xs) + length (s ∷ ys))
+
+-- Both lists have a record.
+abbrev pub StepReady : List ℕ → ℕ → ℕ → List ℕ → Type 0
+StepReady a ho hn ends =
+    (hc : ℕ) × (r : ℕ) × (xs : List ℕ) × (s : ℕ) × (ys : List ℕ) × (cs : List ℕ) × (all : List Recorded) × Running a ho hn hc (r ∷ xs) (s ∷ ys) cs ends all
+
+abbrev pub StepDone : (a b : List ℕ) (ho hn : ℕ) (ends ends' : List ℕ) → Type 0
+StepDone a b ho hn ends ends' =
+    (a₀ : List ℕ) (hc : ℕ) (xs₀ ys₀ : List ℕ) (r : ℕ) (xs : List ℕ) (s : ℕ) (ys cs : List ℕ) (all : List Recorded) → Merging a₀ a ho hn hc xs₀ ys₀ (r ∷ xs) (s ∷ ys) cs ends all → Further a₀ b ho hn hc xs₀ ys₀ ends' all (length (r ∷ xs) + length (s ∷ ys))
+
+-- Whether both lists have a record, by the first forwards of their heads.
+unfoldable pub bothWait : List ℕ → ℕ → ℕ → Bool
+bothWait a ho hn = leb 1 (forward a ho 0) && leb 1 (forward a hn 0)
+
+-- The merge is over: the open result holds the whole list.
+pub record Finished (a₀ a : List ℕ) (ho hn hc : ℕ) (xs₀ ys₀ ends : List ℕ) (all : List Recorded) : Type 0 where
+  pub xs : List ℕ
+  pub ys : List ℕ
+  pub cs : List ℕ
+  pub lists : Trio a ho hn hc xs ys cs ends
+  pub gives : carried a (adjust a hc) cs ≡ all
+  pub confined : Confined a₀ a ho hn hc xs₀ ys₀ xs ys cs
+
+abbrev pub RunsReady : List ℕ → ℕ → ℕ → List ℕ → Type 0
+RunsReady a ho hn ends =
+    (a₀ : List ℕ) × (hc : ℕ) × (xs₀ : List ℕ) × (ys₀ : List ℕ) × (xs : List ℕ) × (ys : List ℕ) × (cs : List ℕ) × (all : List Recorded) × Merging a₀ a ho hn hc xs₀ ys₀ xs ys cs ends all
+
+abbrev pub RunsDone : (a b : List ℕ) (ho hn : ℕ) (ends ends' : List ℕ) → Type 0
+RunsDone a b ho hn ends ends' =
+    (a₀ : List ℕ) (hc : ℕ) (xs₀ ys₀ xs ys cs : List ℕ) (all : List Recorded) → Merging a₀ a ho hn hc xs₀ ys₀ xs ys cs ends all → Finished a₀ b ho hn hc xs₀ ys₀ ends' all

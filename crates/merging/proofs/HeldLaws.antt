@@ -1,0 +1,55 @@
+-- What an arena holds of a list is what the list carries, entered with the adjusts of its head.
+-- The last record with a link before the next one is the record just passed where that has the link, which is how the running sums go on.
+use mathlib.Core.Path.{_≡_, refl, sym, ap, ap₂, _∙_}
+use mathlib.Core.Bool.{cond}
+use mathlib.Core.List.{List, [], _∷_, _++_}
+use Prim.Native.Nat.{ℕ, _≤_, _<_}
+use native.Mathlib.Omega.{arith}
+use lib.Dec.{ltb}
+use borrow.Author.Tests.{lt-ltb, le-ltb}
+use Rattle.slicing.specs.Item.{size}
+use Rattle.slicing.specs.Recorded.{Recorded}
+use Rattle.arena.specs.Arena.{level, mWord, adjust}
+use Rattle.arena.specs.Lazy.{lastWith, trueP, held}
+use Rattle.arena.specs.Chain.{pUnder, after, trues}
+use Rattle.arena.proofs.ListLaws.{last-append, last-here, last-past, has-link}
+use Rattle.arena.proofs.Frames.{all-refl, trues-frame, under-frame}
+use Rattle.merging.specs.Carried.{paired, carried}
+
+-- The sums behind the head h and the records before.
+abbrev sums : List ℕ → ℕ → List ℕ → ℕ → ℕ
+sums a h before k = adjust a (lastWith a k h before) k
+
+last-one : (a : List ℕ) (k h r : ℕ) → lastWith a k h (r ∷ []) ≡ cond (ltb k (level a r)) r h
+unfolding lastWith
+last-one a k h r = refl
+
+sums-on : (a : List ℕ) (h : ℕ) (before : List ℕ) (r k : ℕ) → sums a h (before ++ (r ∷ [])) k ≡ after a (sums a h before) r k
+unfolding after
+sums-on a h before r k =
+    ap (λ (x : ℕ). adjust a x k) (last-append a k h before (r ∷ []) ∙ last-one a k (lastWith a k h before) r)
+    ∙ has-link a k r (λ less. rw (lt-ltb k (level a r) less) refl) (λ more. rw (le-ltb k (level a r) more) refl)
+
+carried-cons : (a : List ℕ) (f : ℕ → ℕ) (r : ℕ) (rs : List ℕ) → carried a f (r ∷ rs) ≡ record { number = r; item = size (mWord a r) (pUnder a f r) } ∷ carried a (after a f r) rs
+unfolding carried trues
+carried-cons a f r rs = refl
+
+carried-sums : (a : List ℕ) (f g : ℕ → ℕ) (rs : List ℕ) → ((k : ℕ) → k < 8 → g k ≡ f k) → carried a g rs ≡ carried a f rs
+unfolding carried
+carried-sums a f g rs same =
+    ap (paired a rs) (trues-frame a a f g rs same (all-refl rs (λ x. record { level-kept = refl; p-kept = refl; adjust-kept = λ k few. refl })))
+
+true-under : (a : List ℕ) (h : ℕ) (before : List ℕ) (r : ℕ) → trueP a h before r ≡ pUnder a (sums a h before) r
+unfolding trueP pUnder
+true-under a h before r = refl
+
+held-from : (a : List ℕ) (h : ℕ) (before rs : List ℕ) → held a h before rs ≡ carried a (sums a h before) rs
+unfolding held carried trues
+held-from a h before [] = refl
+held-from a h before (r ∷ rs) =
+    ap₂ (λ (p : ℕ) (l : List Recorded). record { number = r; item = size (mWord a r) p } ∷ l) (true-under a h before r)
+    (held-from a h (before ++ (r ∷ [])) rs ∙ carried-sums a (after a (sums a h before) r) (sums a h (before ++ (r ∷ []))) rs (λ k few. sums-on a h before r k))
+
+pub held-carried : (a : List ℕ) (h : ℕ) (rs : List ℕ) → held a h [] rs ≡ carried a (adjust a h) rs
+unfolding lastWith
+held-carried a h rs = held-from a h [] rs

@@ -1,0 +1,194 @@
+-- The whole merge: the cleared result and the two lists are a merge on its way, and when it is over and closed the result holds the record-carrying merge.
+-- Clearing the result's head touches no record of the two lists, and closing touches no value.
+use mathlib.Core.Path.{_≡_, refl, sym, ap, ap₂, subst, _∙_}
+use mathlib.Core.List.{List, [], _∷_, _++_, List·Memᴰ, List·Memᴰ·head, List·Memᴰ·tail}
+use Prim.Native.Nat.{ℕ, _+_, _^_, _≤_, _<_}
+use native.Mathlib.Omega.{arith}
+use lib.ListN.{length, getD, replicate, length-replicate, getD-replicate}
+use Rattle.slicing.specs.Item.{Item, size}
+use Rattle.slicing.specs.Good.{Ordered}
+use Rattle.slicing.specs.Recorded.{Recorded, mergeRecorded, items}
+use Rattle.arena.specs.Arena.{level, mWord, adjust}
+use Rattle.arena.specs.Lazy.{nextWith, lastWith, held}
+use Rattle.arena.specs.Chain.{Has, All, Away, Linked, Same, pUnder, after, trues}
+use Rattle.arena.specs.Building.{Built, Cleared}
+use Rattle.arena.proofs.Frames.{all-map, all-both, all-refl, same-shape, linked-frame, trues-frame}
+use Rattle.arena.proofs.PutLaws.{same-trans}
+use Rattle.merging.specs.Carried.{carried}
+use Rattle.merging.specs.Cut.{Falling, Searchable}
+use Rattle.merging.specs.Open.{OpenLinked, CutC, Closed}
+use Rattle.merging.specs.Trio.{Trio}
+use Rattle.merging.specs.Running.{Waiting, Running, Confined, Merging, Finished, RunsReady, RunsDone}
+use Rattle.merging.specs.Merge.{Mergeable, Merged}
+use Rattle.merging.proofs.CarriedLaws.{carried-frame, carried-same}
+use Rattle.merging.proofs.ClosingLaws.{closed-value, closed-same}
+use Rattle.merging.proofs.HeldLaws.{held-carried}
+
+-- The m of an ordered list falls.
+below-first : (a : List ℕ) (f : ℕ → ℕ) (m : ℕ) (rs : List ℕ) → ((z : Item) → List·Memᴰ z (items (carried a f rs)) → z .m < m) → All (λ x. mWord a x < m) rs
+unfolding carried trues
+below-first a f m [] h = tt
+below-first a f m (r ∷ rs) h =
+    (h (size (mWord a r) (pUnder a f r)) (List·Memᴰ·head refl), below-first a (after a f r) m rs (λ z i. h z (List·Memᴰ·tail i)))
+
+ordered-falling : (a : List ℕ) (f : ℕ → ℕ) (rs : List ℕ) → Ordered (items (carried a f rs)) → Falling a rs
+unfolding carried trues
+ordered-falling a f [] o = tt
+ordered-falling a f (r ∷ rs) o =
+    (below-first a (after a f r) (mWord a r) rs (λ z i. o .0 z i .0), ordered-falling a (after a f r) rs (o .1))
+
+-- The result's head was cleared.
+module _ (a b : List ℕ) (ho hn hc : ℕ) (xs ys : List ℕ) (g : Mergeable a ho hn hc xs ys) (c : Cleared a hc b) where
+  module _ (h : ℕ) (rs : List ℕ) (apart : h ≡ hc → ⊥) (away : Away hc rs) (l : Linked a h rs) where
+    head-same : Same a b h
+    head-same = c .outside h apart
+
+    records-same : All (Same a b) rs
+    records-same = all-map rs (λ x ne. c .outside x ne) away
+
+    carried-still : carried b (adjust b h) rs ≡ held a h [] rs
+    carried-still =
+        carried-same a b (adjust a h) (adjust b h) rs (λ k few. head-same .at (11 + k) (omega arith)) records-same
+        ∙ sym (held-carried a h rs)
+
+    still-searchable : length rs ≤ 512 → Ordered (items (held a h [] rs)) → Searchable b h rs
+    still-searchable few o =
+        record {
+          linked = linked-frame a b h rs (c .long) (same-shape a b h head-same) (all-map rs (λ x s. same-shape a b x s) records-same) l;
+          falling = ordered-falling b (adjust b h) rs (subst (λ (k : List Recorded). Ordered (items k)) (sym carried-still) o);
+          few = few;
+        }
+
+    still-room : All (λ x. mWord a x + 1 < 2 ^ 32) rs → All (λ x. mWord b x + 1 < 2 ^ 32) rs
+    still-room room =
+        all-both rs (λ x s few. subst (λ (m : ℕ). m + 1 < 2 ^ 32) (sym (s .at 1 (omega arith))) few) records-same room
+
+  open-empty : OpenLinked b hc []
+  unfolding nextWith
+  open-empty =
+      record {
+        has = c .built .linked .has;
+        top = c .built .linked .top;
+        links = record { at = λ k less one. absurd (omega arith) };
+        away = tt;
+        chain = tt;
+      }
+
+  eight-ends : CutC b hc [] (replicate 8 hc)
+  unfolding lastWith
+  eight-ends =
+      record {
+        long = let n : length (replicate 8 hc) ≡ 8 = length-replicate 8 hc in omega arith;
+        at = λ k few. getD-replicate 8 k hc 0 few;
+      }
+
+  abbrev older-still : carried b (adjust b ho) xs ≡ held a ho [] xs
+  older-still = carried-still ho xs (g .older-result) (g .result-off-older) (g .older)
+
+  abbrev newer-still : carried b (adjust b hn) ys ≡ held a hn [] ys
+  newer-still = carried-still hn ys (g .newer-result) (g .result-off-newer) (g .newer)
+
+  trio : Trio b ho hn hc xs ys [] (replicate 8 hc)
+  trio =
+      record {
+        older = still-searchable ho xs (g .older-result) (g .result-off-older) (g .older) (g .older-few) (g .older-order);
+        newer = still-searchable hn ys (g .newer-result) (g .result-off-newer) (g .newer) (g .newer-few) (g .newer-order);
+        result = open-empty;
+        result-ends = eight-ends;
+        older-newer = g .older-newer;
+        older-result = g .older-result;
+        newer-result = g .newer-result;
+        older-off-newer = g .older-off-newer;
+        older-off-result = tt;
+        newer-off-older = g .newer-off-older;
+        newer-off-result = tt;
+        result-off-older = g .result-off-older;
+        result-off-newer = g .result-off-newer;
+        lists-apart = g .lists-apart;
+        result-older-apart = tt;
+        result-newer-apart = tt;
+      }
+
+  abbrev whole : List Recorded
+  whole = mergeRecorded 0 (held a ho [] xs) (held a hn [] ys)
+
+  begins : Merging b b ho hn hc xs ys xs ys [] (replicate 8 hc) whole
+  unfolding carried trues
+  begins =
+      record {
+        runs =
+            record {
+              waits =
+                  record {
+                    lists = trio;
+                    older-order = subst (λ (l : List Recorded). Ordered (items l)) (sym older-still) (g .older-order);
+                    newer-order = subst (λ (l : List Recorded). Ordered (items l)) (sym newer-still) (g .newer-order);
+                    small = λ x y i j.
+                        g .small x y (subst (λ (l : List Recorded). List·Memᴰ x l) older-still i) (subst (λ (l : List Recorded). List·Memᴰ y l) newer-still j);
+                    older-room = still-room ho xs (g .older-result) (g .result-off-older) (g .older) (g .older-room);
+                    newer-room = still-room hn ys (g .newer-result) (g .result-off-newer) (g .newer) (g .newer-room);
+                  };
+              gives = ap₂ (mergeRecorded 0) older-still newer-still;
+            };
+        confined =
+            record {
+              length-kept = refl;
+              level-kept = λ x. refl;
+              m-kept = λ x. refl;
+              result-sums = λ k few. refl;
+              records = λ x u v. (u, v, tt);
+              outside = λ x o n r u v. record { at = λ j few. refl };
+            };
+      }
+
+  -- The runs were moved, and then the result was closed.
+  module _ (d e ends : List ℕ) (f : Finished b d ho hn hc xs ys ends whole) (close : Closed d e hc (f .cs) ends) where
+    abbrev cs : List ℕ
+    cs = f .cs
+
+    sums-same : (k : ℕ) → k < 8 → adjust e hc k ≡ adjust d hc k
+    sums-same k few = close .adjust-kept hc k few
+
+    result-holds : held e hc [] cs ≡ whole
+    result-holds =
+        held-carried e hc cs
+        ∙ carried-frame d e (adjust d hc) (adjust e hc) cs (close .m-kept)
+        (trues-frame d e (adjust d hc) (adjust e hc) cs sums-same (all-refl cs (closed-value d e hc cs ends close)))
+        ∙ f .gives
+
+    pub merged : Merged a e ho hn hc xs ys
+    merged =
+        record {
+          length-kept = close .length-kept ∙ f .confined .length-kept ∙ c .long;
+          list = cs;
+          built =
+              record {
+                linked = close .list;
+                still = λ k few. sums-same k few ∙ f .confined .result-sums k few ∙ c .built .still k few;
+              };
+          holds = result-holds;
+          level-kept = λ x ne. close .level-kept x ∙ f .confined .level-kept x ∙ c .outside x ne .at 0 (omega arith);
+          records = λ x u v. f .confined .records x u v .2;
+          outside = λ x o n r u v.
+              same-trans a d e x (same-trans a b d x (c .outside x (λ t. r (sym t))) (f .confined .outside x o n r u v))
+              (closed-same d e hc cs ends close x (f .lists .result-ends) r (f .confined .records x u v .2));
+        }
+
+-- The calls of the function are ready, and their promises give its own.
+module _ (a b : List ℕ) (ho hn hc : ℕ) (c : Cleared a hc b) where
+  pub merge-ready : ((xs : List ℕ) × (ys : List ℕ) × Mergeable a ho hn hc xs ys) → RunsReady b ho hn (replicate 8 hc)
+  merge-ready p =
+      (b, hc, p .0, p .1, p .0, p .1, [], whole a b ho hn hc (p .0) (p .1) (p .2) c, begins a b ho hn hc (p .0) (p .1) (p .2) c)
+
+  module _ (d ends : List ℕ) (runs : RunsDone b d ho hn (replicate 8 hc) ends) where
+    finished : (xs ys : List ℕ) (g : Mergeable a ho hn hc xs ys) → Finished b d ho hn hc xs ys ends (whole a b ho hn hc xs ys g c)
+    finished xs ys g = runs b hc xs ys xs ys [] (whole a b ho hn hc xs ys g c) (begins a b ho hn hc xs ys g c)
+
+    pub merge-closes : ((xs : List ℕ) × (ys : List ℕ) × Mergeable a ho hn hc xs ys) → (h : ℕ) × (cs : List ℕ) × OpenLinked d h cs × CutC d h cs ends
+    merge-closes p =
+        let f = finished (p .0) (p .1) (p .2) in (hc, f .cs, f .lists .result, f .lists .result-ends)
+
+    pub merge-done : (e : List ℕ) → ((h : ℕ) (cs : List ℕ) → OpenLinked d h cs → CutC d h cs ends → Closed d e h cs ends) → (xs ys : List ℕ) → Mergeable a ho hn hc xs ys → Merged a e ho hn hc xs ys
+    merge-done e close xs ys g =
+        let f = finished xs ys g in
+        merged a b ho hn hc xs ys g c d e ends f (close hc (f .cs) (f .lists .result) (f .lists .result-ends))

@@ -1,0 +1,70 @@
+-- The newer list's step: its calls are ready, and the merge is further on after it.
+-- The first forward of the older list's head is its first record, and what `advance` moves is what `newer-moves` asks.
+use mathlib.Core.Path.{_≡_, refl, sym, ap, subst, _∙_}
+use mathlib.Core.List.{List, [], _∷_, _++_}
+use Prim.Native.Nat.{ℕ, _+_, _^_, _≤_, _<_}
+use native.Mathlib.Omega.{arith}
+use lib.ListN.{length}
+use Rattle.slicing.specs.Recorded.{Recorded}
+use Rattle.arena.specs.Arena.{word, level, mWord, adjust}
+use Rattle.arena.specs.Chain.{Has, pUnder}
+use Rattle.merging.specs.Cut.{front}
+use Rattle.merging.specs.Advance.{behind, Movable, Moved}
+use Rattle.merging.specs.Running.{Running, Merging, Further, NewerReady, NewerDone}
+use Rattle.merging.proofs.Advancing.{behind-shorter}
+use Rattle.merging.proofs.DropLaws.{same-first, first-has}
+use Rattle.merging.proofs.TrioLaws.{trio-swap, trio-movable}
+use Rattle.merging.proofs.Steps.{newer-moves}
+use Rattle.merging.proofs.Confined.{confined-swap, confined-moved}
+
+module _ (a : List ℕ) (ho hn v : ℕ) (ends : List ℕ) (p : NewerReady a ho hn ends) (e : v ≡ word a ho 3) where
+  same : v ≡ p .1
+  same = same-first a ho v (p .1) (p .2) (p .7 .waits .lists .older .linked) e
+
+  pub newer-has : Has a v
+  newer-has = first-has a ho v (p .1, p .2, p .7 .waits .lists .older .linked) e
+
+  pub newer-low : level a v ≤ 8
+  newer-low = subst (λ (x : ℕ). level a x ≤ 8) (sym same) (p .7 .waits .lists .older .linked .chain .0 .high)
+
+  pub newer-room : (key : ℕ) → key ≡ word a v 1 → key + 1 < 2 ^ 32
+  newer-room key k = subst (λ (x : ℕ). x + 1 < 2 ^ 32) (sym (k ∙ ap (λ (x : ℕ). word a x 1) same)) (p .7 .waits .older-room .0)
+
+  pub newer-movable : (key : ℕ) → key ≡ word a v 1 → Movable a hn (p .0) (key + 1) (p .5) (p .3) (p .4) ends
+  newer-movable key k =
+      let first : key ≡ mWord a (p .1) = k ∙ ap (λ (x : ℕ). word a x 1) same in
+      let less = p .8 in
+      trio-movable a hn ho (p .0) (key + 1) (p .3) (p .4) (p .1 ∷ p .2) (p .5) ends
+      (trio-swap a ho hn (p .0) (p .1 ∷ p .2) (p .3 ∷ p .4) (p .5) ends (p .7 .waits .lists)) (omega arith)
+
+-- The step over plain values: r is the older list's first record.
+module _ (a₀ a b : List ℕ) (ho hn hc : ℕ) (xs₀ ys₀ : List ℕ) (r : ℕ) (xs : List ℕ) (s : ℕ) (ys cs ends ends' : List ℕ) (all : List Recorded) (g : Merging a₀ a ho hn hc xs₀ ys₀ (r ∷ xs) (s ∷ ys) cs ends all) (less : mWord a r < mWord a s) (d : Moved a b hn hc (pUnder a (adjust a ho) r) cs (front a (mWord a r + 1) (s ∷ ys)) (behind a (mWord a r + 1) (s ∷ ys)) ends') where
+  fewer : length (behind a (mWord a r + 1) (s ∷ ys)) < length (s ∷ ys)
+  fewer = behind-shorter a (mWord a r + 1) s ys (omega arith)
+
+  pub newer-further : Further a₀ b ho hn hc xs₀ ys₀ ends' all (length (r ∷ xs) + length (s ∷ ys))
+  newer-further =
+      record {
+        xs = r ∷ xs;
+        ys = behind a (mWord a r + 1) (s ∷ ys);
+        cs = cs ++ front a (mWord a r + 1) (s ∷ ys);
+        merging =
+            record {
+              runs = newer-moves a b ho hn hc r s xs ys cs ends ends' all (g .runs) d;
+              confined =
+                  confined-swap a₀ b hn ho hc ys₀ xs₀ (behind a (mWord a r + 1) (s ∷ ys)) (r ∷ xs) (cs ++ front a (mWord a r + 1) (s ∷ ys))
+                  (confined-moved a₀ a b hn ho hc (mWord a r + 1) (pUnder a (adjust a ho) r) s ys₀ xs₀ ys (r ∷ xs) cs ends'
+                  (confined-swap a₀ a ho hn hc xs₀ ys₀ (r ∷ xs) (s ∷ ys) cs (g .confined)) d);
+            };
+        fewer = let f = fewer in omega arith;
+      }
+
+pub newer-done : (a b : List ℕ) (ho hn v key q : ℕ) (ends ends' : List ℕ) → v ≡ word a ho 3 → key ≡ word a v 1 → q ≡ pUnder a (adjust a ho) v
+    → ((hc : ℕ) (cs : List ℕ) (r : ℕ) (rs : List ℕ) → Movable a hn hc (key + 1) cs r rs ends → Moved a b hn hc q cs (front a (key + 1) (r ∷ rs)) (behind a (key + 1) (r ∷ rs)) ends') → NewerDone a b ho hn ends ends'
+newer-done a b ho hn v key q ends ends' e k f move a₀ hc xs₀ ys₀ r xs s ys cs all g less =
+    let ready : NewerReady a ho hn ends = (hc, r, xs, s, ys, cs, all, g .runs, less) in
+    let same = same-first a ho v r xs (g .runs .waits .lists .older .linked) e in
+    let d = move hc cs s ys (newer-movable a ho hn v ends ready e key k) in
+    newer-further a₀ a b ho hn hc xs₀ ys₀ r xs s ys cs ends ends' all g less
+    (subst (λ (x : ℕ). Moved a b hn hc x cs (front a (mWord a r + 1) (s ∷ ys)) (behind a (mWord a r + 1) (s ∷ ys)) ends') (f ∙ ap (pUnder a (adjust a ho)) same)
+    (subst (λ (x : ℕ). Moved a b hn hc q cs (front a (x + 1) (s ∷ ys)) (behind a (x + 1) (s ∷ ys)) ends') (k ∙ ap (λ (x : ℕ). word a x 1) same) d))

@@ -1,0 +1,144 @@
+-- The older list's step: its calls are ready, and the merge is further on after it.
+-- The first forward of the newer list's head is its first record, and what `advance` moves is what `older-stays` and `older-drops` ask.
+use mathlib.Core.Path.{_≡_, refl, sym, ap, subst, _∙_}
+use mathlib.Core.List.{List, [], _∷_, _++_}
+use Prim.Native.Nat.{ℕ, _+_, _^_, _≤_, _<_}
+use native.Mathlib.Omega.{arith}
+use lib.ListN.{length, getD}
+use Rattle.slicing.specs.Recorded.{Recorded}
+use Rattle.arena.specs.Arena.{word, level, mWord, adjust}
+use Rattle.arena.specs.Lazy.{lastWith}
+use Rattle.arena.specs.Chain.{Has, All, Linked, pUnder}
+use Rattle.merging.specs.Cut.{front}
+use Rattle.merging.specs.Open.{OpenChain}
+use Rattle.merging.specs.Advance.{behind, Movable, Moved}
+use Rattle.merging.specs.Dropping.{Dropped}
+use Rattle.merging.specs.Running.{Running, Confined, Merging, Further, OlderReady, OlderDone}
+use Rattle.merging.proofs.OpenLaws.{last-all}
+use Rattle.merging.proofs.Advancing.{behind-shorter}
+use Rattle.merging.proofs.DropLaws.{same-first, first-has}
+use Rattle.merging.proofs.TrioLaws.{trio-movable, trio-moved}
+use Rattle.merging.proofs.Steps.{older-stays, older-drops}
+use Rattle.merging.proofs.Confined.{confined-moved, confined-dropped}
+
+-- What `advance` promises of the older list.
+abbrev pub Moves : (a b : List ℕ) (ho key q : ℕ) (ends ends' : List ℕ) → Type 0
+Moves a b ho key q ends ends' =
+    (hc : ℕ) (cs : List ℕ) (r : ℕ) (rs : List ℕ) → Movable a ho hc key cs r rs ends → Moved a b ho hc q cs (front a key (r ∷ rs)) (behind a key (r ∷ rs)) ends'
+
+module _ (a : List ℕ) (ho hn v : ℕ) (ends : List ℕ) (p : OlderReady a ho hn ends) (e : v ≡ word a hn 3) where
+  same : v ≡ p .3
+  same = same-first a hn v (p .3) (p .4) (p .7 .waits .lists .newer .linked) e
+
+  pub older-has : Has a v
+  older-has = first-has a hn v (p .3, p .4, p .7 .waits .lists .newer .linked) e
+
+  pub older-low : level a v ≤ 8
+  older-low = subst (λ (x : ℕ). level a x ≤ 8) (sym same) (p .7 .waits .lists .newer .linked .chain .0 .high)
+
+  module _ (key : ℕ) (k : key ≡ word a v 1) where
+    first : key ≡ mWord a (p .3)
+    first = k ∙ ap (λ (x : ℕ). word a x 1) same
+
+    pub older-movable : Movable a ho (p .0) key (p .5) (p .1) (p .2) ends
+    older-movable =
+        let low = p .8 in
+        let f = first in
+        trio-movable a ho hn (p .0) key (p .1) (p .2) (p .3 ∷ p .4) (p .5) ends (p .7 .waits .lists) (omega arith)
+
+    -- After the run was moved, in the words of the laws.
+    module _ (b : List ℕ) (q : ℕ) (ends' : List ℕ) (f : q ≡ pUnder a (adjust a hn) v) (move : Moves a b ho key q ends ends') where
+      pub older-moved : Moved a b ho (p .0) (pUnder a (adjust a hn) (p .3)) (p .5) (front a (mWord a (p .3)) (p .1 ∷ p .2)) (behind a (mWord a (p .3)) (p .1 ∷ p .2)) ends'
+      older-moved =
+          subst (λ (x : ℕ). Moved a b ho (p .0) x (p .5) (front a (mWord a (p .3)) (p .1 ∷ p .2)) (behind a (mWord a (p .3)) (p .1 ∷ p .2)) ends') (f ∙ ap (pUnder a (adjust a hn)) same)
+          (subst (λ (x : ℕ). Moved a b ho (p .0) q (p .5) (front a x (p .1 ∷ p .2)) (behind a x (p .1 ∷ p .2)) ends') first (move (p .0) (p .5) (p .1) (p .2) older-movable))
+
+      abbrev result : List ℕ
+      result = p .5 ++ front a (mWord a (p .3)) (p .1 ∷ p .2)
+
+      pub end-is : getD ends' 0 0 ≡ lastWith b 0 (p .0) result
+      end-is = older-moved .ends .at 0 (omega arith)
+
+      pub end-there : 0 < length ends'
+      end-there = let long = older-moved .ends .long in omega arith
+
+      chain-has : (rs : List ℕ) → OpenChain b rs → All (Has b) rs
+      chain-has [] c = tt
+      chain-has (x ∷ rs) c = (c .0 .has, chain-has rs (c .1))
+
+      pub end-has : Has b (getD ends' 0 0)
+      end-has =
+          subst (λ (x : ℕ). Has b x) (sym end-is)
+          (last-all b 0 (Has b) (p .0) result (older-moved .result .has) (chain-has result (older-moved .result .chain)))
+
+      pub newer-linked : Linked b hn (p .3 ∷ p .4)
+      newer-linked =
+          trio-moved a b ho hn (p .0) (mWord a (p .3)) (pUnder a (adjust a hn) (p .3)) (p .1) (p .2) (p .3 ∷ p .4) (p .5) ends ends' (p .7 .waits .lists) older-moved .newer .linked
+
+-- The step over plain values: s is the newer list's first record, and the run of the older list was moved.
+module _ (a₀ a b : List ℕ) (ho hn hc : ℕ) (xs₀ ys₀ : List ℕ) (r : ℕ) (xs : List ℕ) (s : ℕ) (ys cs ends ends' : List ℕ) (all : List Recorded) (g : Merging a₀ a ho hn hc xs₀ ys₀ (r ∷ xs) (s ∷ ys) cs ends all) (tops : mWord a s ≤ mWord a r) (d : Moved a b ho hc (pUnder a (adjust a hn) s) cs (front a (mWord a s) (r ∷ xs)) (behind a (mWord a s) (r ∷ xs)) ends') where
+  abbrev fr : List ℕ
+  fr = front a (mWord a s) (r ∷ xs)
+
+  abbrev back : List ℕ
+  back = behind a (mWord a s) (r ∷ xs)
+
+  fewer : length back < length (r ∷ xs)
+  fewer = behind-shorter a (mWord a s) r xs tops
+
+  abbrev confined : Confined a₀ b ho hn hc xs₀ ys₀ back (s ∷ ys) (cs ++ fr)
+  confined =
+      confined-moved a₀ a b ho hn hc (mWord a s) (pUnder a (adjust a hn) s) r xs₀ ys₀ xs (s ∷ ys) cs ends' (g .confined) d
+
+  pub further-stays : (mWord b (lastWith b 0 hc (cs ++ fr)) ≡ mWord a s → ⊥) → Further a₀ b ho hn hc xs₀ ys₀ ends' all (length (r ∷ xs) + length (s ∷ ys))
+  further-stays other =
+      record {
+        xs = back;
+        ys = s ∷ ys;
+        cs = cs ++ fr;
+        merging =
+            record { runs = older-stays a b ho hn hc r s xs ys cs ends ends' all (g .runs) tops d other; confined = confined };
+        fewer = let f = fewer in omega arith;
+      }
+
+  pub further-drops : (c : List ℕ) → mWord b (lastWith b 0 hc (cs ++ fr)) ≡ mWord a s → Dropped b c hn s ys → Further a₀ c ho hn hc xs₀ ys₀ ends' all (length (r ∷ xs) + length (s ∷ ys))
+  further-drops c equal f =
+      record {
+        xs = back;
+        ys = ys;
+        cs = cs ++ fr;
+        merging =
+            record {
+              runs = older-drops a b ho hn hc r s xs ys cs ends ends' all (g .runs) tops d c equal f;
+              confined =
+                  confined-dropped a₀ b c ho hn hc s xs₀ ys₀ back ys (cs ++ fr) confined (g .runs .waits .lists .newer-result)
+                  f;
+            };
+        fewer = let f = fewer in omega arith;
+      }
+
+-- The two ways out of the function: what it read and what its calls promise.
+module _ (a b : List ℕ) (ho hn v key q last : ℕ) (ends ends' : List ℕ) (e : v ≡ word a hn 3) (k : key ≡ word a v 1) (f : q ≡ pUnder a (adjust a hn) v) (move : Moves a b ho key q ends ends') (l : last ≡ word b (getD ends' 0 0) 1) where
+  module _ (a₀ : List ℕ) (hc : ℕ) (xs₀ ys₀ : List ℕ) (r : ℕ) (xs : List ℕ) (s : ℕ) (ys cs : List ℕ) (all : List Recorded) (g : Merging a₀ a ho hn hc xs₀ ys₀ (r ∷ xs) (s ∷ ys) cs ends all) (tops : mWord a s ≤ mWord a r) where
+    abbrev ready : OlderReady a ho hn ends
+    ready = (hc, r, xs, s, ys, cs, all, g .runs, tops)
+
+    abbrev moved : Moved a b ho hc (pUnder a (adjust a hn) s) cs (front a (mWord a s) (r ∷ xs)) (behind a (mWord a s) (r ∷ xs)) ends'
+    moved = older-moved a ho hn v ends ready e key k b q ends' f move
+
+    last-is : last ≡ mWord b (lastWith b 0 hc (cs ++ front a (mWord a s) (r ∷ xs)))
+    last-is = l ∙ ap (λ (x : ℕ). word b x 1) (end-is a ho hn v ends ready e key k b q ends' f move)
+
+    key-is : key ≡ mWord a s
+    key-is = first a ho hn v ends ready e key k
+
+  pub older-done-stays : (last ≡ key → ⊥) → OlderDone a b ho hn ends ends'
+  older-done-stays other a₀ hc xs₀ ys₀ r xs s ys cs all g tops =
+      further-stays a₀ a b ho hn hc xs₀ ys₀ r xs s ys cs ends ends' all g tops (moved a₀ hc xs₀ ys₀ r xs s ys cs all g tops)
+      (λ t. other (last-is a₀ hc xs₀ ys₀ r xs s ys cs all g tops ∙ t ∙ sym (key-is a₀ hc xs₀ ys₀ r xs s ys cs all g tops)))
+
+  pub older-done-drops : (c : List ℕ) → last ≡ key → ((r : ℕ) (rs : List ℕ) → Linked b hn (r ∷ rs) → Dropped b c hn r rs) → OlderDone a c ho hn ends ends'
+  older-done-drops c same drop a₀ hc xs₀ ys₀ r xs s ys cs all g tops =
+      further-drops a₀ a b ho hn hc xs₀ ys₀ r xs s ys cs ends ends' all g tops (moved a₀ hc xs₀ ys₀ r xs s ys cs all g tops) c
+      (sym (last-is a₀ hc xs₀ ys₀ r xs s ys cs all g tops) ∙ same ∙ key-is a₀ hc xs₀ ys₀ r xs s ys cs all g tops)
+      (drop s ys (newer-linked a ho hn v ends (ready a₀ hc xs₀ ys₀ r xs s ys cs all g tops) e key k b q ends' f move))

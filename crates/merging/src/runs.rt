@@ -1,0 +1,47 @@
+// The runs of the merge, one after the other, while both lists have a record.
+ghost use mathlib.Core.Path.{_≡_};
+ghost use Rattle.arena.specs.Chain.{Has};
+ghost use Rattle.merging.specs.Running.{StepReady, StepDone, bothWait, RunsReady, RunsDone};
+use crate::newer_step::newer_step;
+use crate::older_step::older_step;
+use arena::words::get;
+use arena::words::wide;
+
+// Whether both lists have a record.
+fn both_wait(arena: &[u32], older: usize, newer: usize) -> bool
+    requires { ⌜ Has (now arena) older × Has (now arena) newer ⌝ }
+    ensures { λ r. ⌜ r ≡ bothWait (now (arena .entry)) older newer ⌝ }
+{
+    if get(arena, older, 3) < 1 {
+        return false;
+    }
+    1 <= get(arena, newer, 3)
+}
+
+// Moves a run of the list whose first m is the larger. At equal m the older list goes first.
+fn step(arena: &mut [u32], older: usize, newer: usize, ends: &mut [usize])
+    requires { ⌜ StepReady (now arena) older newer (now ends) ⌝ }
+    ensures { λ _. ⌜ StepDone (now (arena .entry)) (now (arena .exit)) older newer (now (ends .entry)) (now (ends .exit)) ⌝ }
+{
+    let r = wide(get(arena, older, 3));
+    let s = wide(get(arena, newer, 3));
+    let top = get(arena, r, 1);
+    if get(arena, s, 1) <= top {
+        older_step(arena, older, newer, ends);
+    } else {
+        newer_step(arena, older, newer, ends);
+    }
+}
+
+// Moves runs to the open list that ends at `ends` until one of the two lists is empty. What the other still has is
+// no part of the merge.
+pub fn merge_runs(arena: &mut [u32], older: usize, newer: usize, ends: &mut [usize])
+    requires { ⌜ RunsReady (now arena) older newer (now ends) ⌝ }
+    ensures { λ _. ⌜ RunsDone (now (arena .entry)) (now (arena .exit)) older newer (now (ends .entry)) (now (ends .exit)) ⌝ }
+{
+    let mut more = both_wait(arena, older, newer);
+    while more {
+        step(arena, older, newer, ends);
+        more = both_wait(arena, older, newer);
+    }
+}
