@@ -15,7 +15,8 @@ class Refused(Exception):
 
 
 class Face:
-    """A taken file: its tree, and for each gauge in file order the bytes of its sizes and the sizes."""
+    """A taken file: its tree, and for each gauge in file order the bytes of its sizes and the sizes. A tree is
+    ("gauge",), or a join with its older and its newer part: ("beside", older, newer) or ("stacked", older, newer)."""
 
     def __init__(self, tree, gauges):
         self.tree = tree
@@ -74,7 +75,7 @@ def read(file):
             ask(len(stack) >= 2, 11)
             newer = stack.pop()
             older = stack.pop()
-            stack.append(("join", older, newer))
+            stack.append(("beside" if kind == 2 else "stacked", older, newer))
     # "After the last entry: one part left? 12. File at its end? 13."
     ask(len(stack) == 1, 12)
     ask(place == len(file), 13)

@@ -30,8 +30,12 @@ pub data Check : Type 0 where
   AtEnd : Check
   -- As many levels as sizes?
   LevelCount : Check
+  -- Each level 1 to 8?
+  LevelRange : Check
   -- Arena and scratch, each 16,384 32-bit words or more?
   Buffers : Check
+  -- Output long enough?
+  Output : Check
   -- Does the arena hold a lazy list?
   LazyList : Check
   -- Is the place from 1 to its length?
@@ -53,6 +57,8 @@ numberOf Join = 11
 numberOf OnePart = 12
 numberOf AtEnd = 13
 numberOf LevelCount = 14
+numberOf LevelRange = 15
 numberOf Buffers = 17
+numberOf Output = 18
 numberOf LazyList = 20
 numberOf Place = 21

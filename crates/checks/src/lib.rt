@@ -32,8 +32,12 @@ pub const AT_END: u32 = 13;
 // Of the levels.
 pub const LEVEL_COUNT: u32 = 14;
 
+pub const LEVEL_RANGE: u32 = 15;
+
 // Of the lent buffers.
 pub const BUFFERS: u32 = 17;
+
+pub const OUTPUT: u32 = 18;
 
 // Of an arena that is read.
 pub const LAZY_LIST: u32 = 20;

@@ -13,3 +13,4 @@ pub mod Answered
 pub mod Prefix
 pub mod Written
 pub mod Example
+pub mod PartArray

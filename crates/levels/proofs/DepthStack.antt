@@ -6,7 +6,6 @@ use Prim.Native.Nat.{ℕ, zero, suc, _+_, _-_, _*_, _≤_, _<_, min, max}
 use native.Mathlib.Numerals.{add-one}
 use native.Mathlib.Omega.{arith}
 use lib.ListN.{length, getD, set, length-set, length-append}
-use lib.Seq.{getD-set-same, getD-set-other}
 use Rattle.checks.specs.Answer.{taken}
 use Rattle.checks.proofs.Answers.{same-taken}
 use Rattle.slicing.specs.Tree.{Tree, gauge, gaugesOf, leastDepth, mostDepth}
@@ -14,25 +13,10 @@ use Rattle.slicing.proofs.Depths.{depth-few, least-most}
 use Rattle.facefile.specs.Format.{State, start, faceOf}
 use Rattle.facefile.specs.Tracking.{flat}
 use Rattle.facefile.proofs.Took.{Cut, cut-beside, cut-stacked}
+use Rattle.facefile.proofs.PartArray.{Held, held-push, push-held, stack-few}
 use Rattle.facefile.proofs.Walk.{Walk, walk-start, walk-end, GaugeTurn, gauge-turn, JoinTurn, join-turn}
 use Rattle.levels.specs.declared.depths.Depths.{Depths}
 use Rattle.levels.specs.Deep.{Deep, Room, joinedAt}
-
--- The array a holds f of the parts of the stack, the oldest at place 0.
-abbrev Held : (Tree → ℕ) → List ℕ → List Tree → Type 0
-Held f a [] = Unit {0}
-Held f a (t ∷ parts) = (getD a (length parts) 0 ≡ f t) × Held f a parts
-
--- A store at or after the end of the stack leaves what is held.
-held-set : (f : Tree → ℕ) (a : List ℕ) (i v : ℕ) (parts : List Tree) → length parts ≤ i → Held f a parts → Held f (set a i v) parts
-held-set f a i v [] h k = tt
-held-set f a i v (t ∷ parts) h k =
-    let other : length parts ≡ i → ⊥ = omega arith in
-    (getD-set-other a i (length parts) v 0 other ∙ k .0, held-set f a i v parts (omega arith) (k .1))
-
-held-push : (f : Tree → ℕ) (a : List ℕ) (v : ℕ) (t : Tree) (parts : List Tree) → length parts < length a → v ≡ f t → Held f a parts → Held f (set a (length parts) v) (t ∷ parts)
-held-push f a v t parts h e k =
-    (getD-set-same a (length parts) v 0 h ∙ e, held-set f a (length parts) v parts (omega arith) k)
 
 -- f of a join is one more than g of f of its parts.
 abbrev Joins : (Tree → ℕ) → (ℕ → ℕ → ℕ) → Type 0
@@ -52,10 +36,6 @@ held-join f g joins a kind cut x y parts c h k =
     held-push f a (1 + g (getD a (length parts) 0) (getD a (length parts + 1) 0)) (cut x y) parts h
     (ap (λ (n : ℕ). 1 + g n (getD a (length parts + 1) 0)) (k .1 .0) ∙ ap (λ (n : ℕ). 1 + g (f x) n) second ∙ joins kind cut x y c)
     (k .1 .1)
-
--- The same for the stack and the array after a turn of the walk.
-push-held : (f : Tree → ℕ) (a l : List ℕ) (n v : ℕ) (t : Tree) (stack next : List Tree) → length stack ≡ n → next ≡ t ∷ stack → l ≡ set a n v → n < length a → v ≡ f t → Held f a stack → Held f l next
-push-held f a l n v t stack next e g p h w k = rw (g, p, ← e) (held-push f a v t stack (rw e h) w k)
 
 join-held : (f : Tree → ℕ) (g : ℕ → ℕ → ℕ) → Joins f g → (a l : List ℕ) (n kind : ℕ) (cut : Tree → Tree → Tree) (x y : Tree) (parts stack next : List Tree) → stack ≡ y ∷ x ∷ parts → next ≡ cut x y ∷ parts → n ≡ length parts → l ≡ joinedAt g a n → Cut kind cut → n < length a → Held f a stack → Held f l next
 join-held f g joins a l n kind cut x y parts stack next before after e p c h k =
@@ -77,12 +57,6 @@ deep-two x y parts h =
     let a = depth-few x in
     let b = depth-few y in
     (omega arith, omega arith)
-
--- Each part has a gauge.
-parts-few : (parts : List Tree) → length parts ≤ length (flat gaugesOf parts)
-parts-few [] = omega arith
-parts-few (t ∷ parts) =
-    omega (arith, length-append (flat gaugesOf parts) (gaugesOf t), parts-few parts, depth-few t)
 
 pub record Measured (file least most : List ℕ) (at parts : ℕ) : Type 0 where
   pub tree : Tree
@@ -110,9 +84,6 @@ measured-start file least most t l m =
       least-held = tt;
       most-held = tt;
     }
-
-stack-few : (file : List ℕ) (t : Tree) (at : ℕ) (s : State) → Walk file t at s → (length (s .stack) ≤ s .gauges) × (s .gauges ≤ 64)
-stack-few file t at s w = let p = parts-few (s .stack) in let c = w .sound .counted in (omega arith, w .sound .few)
 
 module _ (file least most : List ℕ) (at parts : ℕ) (k : Measured file least most at parts) (more : at < length file) where
   module _ (e : getD file at 0 ≡ 1) where

@@ -47,7 +47,7 @@ by-list (refused c) h f = ap refused h
 by-list (taken l) h f = absurd (f l refl)
 
 -- The first record may follow where none is passed.
-under-first : (m p : ℕ) (l : List Recorded) → Under 0 m p l
+pub under-first : (m p : ℕ) (l : List Recorded) → Under 0 m p l
 under-first m p [] = tt
 under-first m p (x ∷ l) = λ h. absurd (h refl)
 

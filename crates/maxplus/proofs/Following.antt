@@ -85,7 +85,7 @@ walk-onward a most (suc r) rs h e =
       walks = onward .1;
     }
 
-walk-back : (a : List ℕ) (most r : ℕ) (rs : List ℕ) → (r ≡ 0 → ⊥) → r ≤ 512 → walk most a (forward a r 0) ≡ taken rs → walk (suc most) a r ≡ taken (r ∷ rs)
+pub walk-back : (a : List ℕ) (most r : ℕ) (rs : List ℕ) → (r ≡ 0 → ⊥) → r ≤ 512 → walk most a (forward a r 0) ≡ taken rs → walk (suc most) a r ≡ taken (r ∷ rs)
 unfolding walk
 walk-back a most zero rs h b e = absurd (h refl)
 walk-back a most (suc r) rs h b e = rw (le-leb (suc r) 512 b, e)
@@ -97,7 +97,7 @@ walk-over a (suc most) zero rs h e = sym (same-taken _ _ e)
 walk-over a zero (suc r) rs h e = absurd (omega arith)
 walk-over a (suc most) (suc r) rs h e = absurd (omega arith)
 
-walk-stops : (a : List ℕ) (most r : ℕ) → r ≡ 0 → walk most a r ≡ taken []
+pub walk-stops : (a : List ℕ) (most r : ℕ) → r ≡ 0 → walk most a r ≡ taken []
 unfolding walk
 walk-stops a zero zero h = refl
 walk-stops a (suc most) zero h = refl

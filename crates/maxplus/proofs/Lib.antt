@@ -4,3 +4,4 @@ pub mod Following
 pub mod Answering
 pub mod ReadingWalk
 pub mod Row
+pub mod Holds

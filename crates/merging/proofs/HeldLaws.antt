@@ -34,7 +34,7 @@ carried-cons : (a : List ℕ) (f : ℕ → ℕ) (r : ℕ) (rs : List ℕ) → ca
 unfolding carried trues
 carried-cons a f r rs = refl
 
-carried-sums : (a : List ℕ) (f g : ℕ → ℕ) (rs : List ℕ) → ((k : ℕ) → k < 8 → g k ≡ f k) → carried a g rs ≡ carried a f rs
+pub carried-sums : (a : List ℕ) (f g : ℕ → ℕ) (rs : List ℕ) → ((k : ℕ) → k < 8 → g k ≡ f k) → carried a g rs ≡ carried a f rs
 unfolding carried
 carried-sums a f g rs same =
     ap (paired a rs) (trues-frame a a f g rs same (all-refl rs (λ x. record { level-kept = refl; p-kept = refl; adjust-kept = λ k few. refl })))

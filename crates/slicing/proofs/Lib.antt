@@ -15,3 +15,4 @@ pub mod Picking
 pub mod Demand3
 pub mod Stored
 pub mod Worked
+pub mod PartLists

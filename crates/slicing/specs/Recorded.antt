@@ -46,6 +46,13 @@ shapesRecorded gap r (stacked a b) =
     turnRecorded
     (mergeRecorded gap (turnRecorded (shapesRecorded gap r a)) (turnRecorded (shapesRecorded gap (r + sizeCount a) b)))
 
+-- The list of a part in the arena: "m is height where the root is a gauge or side by side, width where it is stacked." Turned where that is the width, it is the shape list.
+unfoldable pub partRecorded : ℕ → ℕ → Tree → List Recorded
+partRecorded gap r (gauge s) = numbered r s
+partRecorded gap r (beside a b) = mergeRecorded gap (shapesRecorded gap r a) (shapesRecorded gap (r + sizeCount a) b)
+partRecorded gap r (stacked a b) =
+    mergeRecorded gap (turnRecorded (shapesRecorded gap r a)) (turnRecorded (shapesRecorded gap (r + sizeCount a) b))
+
 -- The list with the records forgotten.
 abbrev pub items : List Recorded → List Item
 items l = map (λ (r : Recorded). r .item) l

@@ -1,4 +1,5 @@
 use mathlib.Core.Path.{_∙_}
+use native.Mathlib.Omega.{arith}
 use borrow.Author.Needs.{needs}
 use Rattle.merging.proofs.OlderStep.{older-has, older-low, older-movable, end-has, newer-linked, older-done-stays, older-done-drops}
 use Rattle.merging.proofs.older_step.older_step.Statement.{statement}
@@ -59,7 +60,7 @@ same-length-2 c = search needs
 -- src/older_step.rt:11:1
 returns : tie.Need-returns
 returns c =
-    older-done-drops _ _ _ _ _ _ _ _ _ _ (c .before .before .before .before .before .before .before .before .before .before .before .before .before .before .before .before .before .before .before .wide .ensures ∙ c .before .before .before .before .before .before .before .before .before .before .before .before .before .before .before .before .before .before .before .before .get .ensures) (c .before .before .before .before .before .before .before .before .before .before .before .before .before .before .before .before .before .get2 .ensures) (c .before .before .before .before .before .before .before .before .before .before .before .before .before .before .before .first-p .ensures) (c .before .before .before .before .before .before .before .before .before .before .before .before .advance .ensures) (c .before .before .before .before .before .get3 .ensures) _ (c .before .before .before .before .if1 .taken) (c .before .before .drop-first .ensures)
+    older-done-drops _ _ _ _ _ _ _ _ _ _ (c .before .before .before .before .before .before .before .before .before .before .before .before .before .before .before .before .before .before .before .wide .ensures ∙ c .before .before .before .before .before .before .before .before .before .before .before .before .before .before .before .before .before .before .before .before .get .ensures) (c .before .before .before .before .before .before .before .before .before .before .before .before .before .before .before .before .before .get2 .ensures) (c .before .before .before .before .before .before .before .before .before .before .before .before .before .before .before .first-p .ensures) (c .before .before .before .before .before .before .before .before .before .before .before .before .advance .ensures) (c .before .before .before .before .before .get3 .ensures) _ (let t = c .before .before .before .before .if1 .taken in omega arith) (c .before .before .drop-first .ensures)
 
 -- src/older_step.rt:11:1
 same-length-3 : tie.Need-same-length-3
@@ -72,7 +73,7 @@ same-length-4 c = search needs
 -- src/older_step.rt:11:1
 returns-2 : tie.Need-returns-2
 returns-2 c =
-    older-done-stays _ _ _ _ _ _ _ _ _ _ (c .before .before .before .before .before .before .before .before .before .before .before .before .before .before .before .wide .ensures ∙ c .before .before .before .before .before .before .before .before .before .before .before .before .before .before .before .before .get .ensures) (c .before .before .before .before .before .before .before .before .before .before .before .before .before .get2 .ensures) (c .before .before .before .before .before .before .before .before .before .before .before .first-p .ensures) (c .before .before .before .before .before .before .before .before .advance .ensures) (c .before .get3 .ensures) (c .if1 .left)
+    older-done-stays _ _ _ _ _ _ _ _ _ _ (c .before .before .before .before .before .before .before .before .before .before .before .before .before .before .before .wide .ensures ∙ c .before .before .before .before .before .before .before .before .before .before .before .before .before .before .before .before .get .ensures) (c .before .before .before .before .before .before .before .before .before .before .before .before .before .get2 .ensures) (c .before .before .before .before .before .before .before .before .before .before .before .first-p .ensures) (c .before .before .before .before .before .before .before .before .advance .ensures) (c .before .get3 .ensures) (λ e. let t = c .if1 .left in omega arith)
 
 pub older-step-spec : {M : Type 1} → statement M
 older-step-spec =

@@ -1,6 +1,7 @@
 -- `merging::runs::step` meets its contract.
 -- The words it compares are the m of the two first records, and each way out is the step that it calls.
 use mathlib.Core.Path.{_∙_}
+use native.Mathlib.Omega.{arith}
 use borrow.Author.Needs.{needs}
 use Rattle.merging.proofs.Stepping.{step-older-has, step-newer-has, step-older, step-newer, step-older-done, step-newer-done}
 use Rattle.merging.proofs.runs.step.Statement.{statement}
@@ -41,12 +42,12 @@ get-requires-4 c κs =
 -- src/runs.rt:30:9
 older-step-requires : tie.Need-older-step-requires
 older-step-requires c κs =
-    step-older _ _ _ _ _ _ (c .before .before .before .before .before .before .before .before .before .before .wide .ensures ∙ c .before .before .before .before .before .before .before .before .before .before .before .get .ensures) (c .before .before .before .before .before .before .before .wide2 .ensures ∙ c .before .before .before .before .before .before .before .before .get2 .ensures) _ _ (c .before .before .before .before .before .get3 .ensures) (c .before .before .before .get4 .ensures) (c .before .before .if1 .taken) (c .before .before .before .before .before .before .before .before .before .before .before .before .before .before .before .pre)
+    step-older _ _ _ _ _ _ (c .before .before .before .before .before .before .before .before .before .before .wide .ensures ∙ c .before .before .before .before .before .before .before .before .before .before .before .get .ensures) (c .before .before .before .before .before .before .before .wide2 .ensures ∙ c .before .before .before .before .before .before .before .before .get2 .ensures) _ _ (c .before .before .before .before .before .get3 .ensures) (c .before .before .before .get4 .ensures) (let t = c .before .before .if1 .taken in omega arith) (c .before .before .before .before .before .before .before .before .before .before .before .before .before .before .before .pre)
 
 -- src/runs.rt:32:9
 newer-step-requires : tie.Need-newer-step-requires
 newer-step-requires c κs =
-    step-newer _ _ _ _ _ _ (c .before .before .before .before .before .before .before .before .before .before .wide .ensures ∙ c .before .before .before .before .before .before .before .before .before .before .before .get .ensures) (c .before .before .before .before .before .before .before .wide2 .ensures ∙ c .before .before .before .before .before .before .before .before .get2 .ensures) _ _ (c .before .before .before .before .before .get3 .ensures) (c .before .before .before .get4 .ensures) (c .before .before .if1 .left) (c .before .before .before .before .before .before .before .before .before .before .before .before .before .before .before .pre)
+    step-newer _ _ _ _ _ _ (c .before .before .before .before .before .before .before .before .before .before .wide .ensures ∙ c .before .before .before .before .before .before .before .before .before .before .before .get .ensures) (c .before .before .before .before .before .before .before .wide2 .ensures ∙ c .before .before .before .before .before .before .before .before .get2 .ensures) _ _ (c .before .before .before .before .before .get3 .ensures) (c .before .before .before .get4 .ensures) (let t = c .before .before .if1 .left in omega arith) (c .before .before .before .before .before .before .before .before .before .before .before .before .before .before .before .pre)
 
 -- src/runs.rt:22:1
 same-length : tie.Need-same-length
@@ -59,7 +60,7 @@ same-length-2 c = search needs
 -- src/runs.rt:22:1
 returns : tie.Need-returns
 returns c =
-    step-older-done _ _ _ _ _ _ (c .before .before .before .before .before .before .before .before .before .before .before .before .before .before .before .wide .ensures ∙ c .before .before .before .before .before .before .before .before .before .before .before .before .before .before .before .before .get .ensures) (c .before .before .before .before .before .before .before .before .before .before .before .before .wide2 .ensures ∙ c .before .before .before .before .before .before .before .before .before .before .before .before .before .get2 .ensures) _ _ (c .before .before .before .before .before .before .before .before .before .before .get3 .ensures) (c .before .before .before .before .before .before .before .before .get4 .ensures) _ _ (c .before .before .before .before .before .before .before .if1 .taken) (c .before .before .before .before .older-step .ensures)
+    step-older-done _ _ _ _ _ _ (c .before .before .before .before .before .before .before .before .before .before .before .before .before .before .before .wide .ensures ∙ c .before .before .before .before .before .before .before .before .before .before .before .before .before .before .before .before .get .ensures) (c .before .before .before .before .before .before .before .before .before .before .before .before .wide2 .ensures ∙ c .before .before .before .before .before .before .before .before .before .before .before .before .before .get2 .ensures) _ _ (c .before .before .before .before .before .before .before .before .before .before .get3 .ensures) (c .before .before .before .before .before .before .before .before .get4 .ensures) _ _ (let t = c .before .before .before .before .before .before .before .if1 .taken in omega arith) (c .before .before .before .before .older-step .ensures)
 
 -- src/runs.rt:22:1
 same-length-3 : tie.Need-same-length-3
@@ -72,7 +73,7 @@ same-length-4 c = search needs
 -- src/runs.rt:22:1
 returns-2 : tie.Need-returns-2
 returns-2 c =
-    step-newer-done _ _ _ _ _ _ (c .before .before .before .before .before .before .before .before .before .before .before .before .before .before .before .wide .ensures ∙ c .before .before .before .before .before .before .before .before .before .before .before .before .before .before .before .before .get .ensures) (c .before .before .before .before .before .before .before .before .before .before .before .before .wide2 .ensures ∙ c .before .before .before .before .before .before .before .before .before .before .before .before .before .get2 .ensures) _ _ (c .before .before .before .before .before .before .before .before .before .before .get3 .ensures) (c .before .before .before .before .before .before .before .before .get4 .ensures) _ _ (c .before .before .before .before .before .before .before .if1 .left) (c .before .before .before .before .newer-step .ensures)
+    step-newer-done _ _ _ _ _ _ (c .before .before .before .before .before .before .before .before .before .before .before .before .before .before .before .wide .ensures ∙ c .before .before .before .before .before .before .before .before .before .before .before .before .before .before .before .before .get .ensures) (c .before .before .before .before .before .before .before .before .before .before .before .before .wide2 .ensures ∙ c .before .before .before .before .before .before .before .before .before .before .before .before .before .get2 .ensures) _ _ (c .before .before .before .before .before .before .before .before .before .before .get3 .ensures) (c .before .before .before .before .before .before .before .before .get4 .ensures) _ _ (let t = c .before .before .before .before .before .before .before .if1 .left in omega arith) (c .before .before .before .before .newer-step .ensures)
 
 pub step-spec : {M : Type 1} → statement M
 step-spec =

@@ -1,0 +1,91 @@
+// One item is merged into a list of k records, at every place where its m can fall.
+//
+//     merge rattle|lazy|plain older|newer gap|tie K
+//
+// The list's records are 1 to K with levels one in four: level 1 plus the times that 4 divides the record number, cut
+// to 8. The item is the list of the older or of the newer part, and its m falls in a gap (above the first record,
+// between two, or below the last) or on the m of a record. Each merge starts from the same freshly made arena and its
+// result is held against the plain one. The number of merges is printed; the instructions inside the merge function
+// alone are for callgrind to count.
+#include <stdio.h>
+#include <stdlib.h>
+#include <string.h>
+
+#include "lazy.h"
+#include "plain.h"
+
+enum { LIST = 513, ITEM = 514, RESULT = 0 };
+
+// A slice is lent to Rattle as its pointer and its length.
+void rattle_merge(uint32_t *arena, size_t words, size_t older, size_t newer, size_t result);
+
+static uint32_t fresh[WORDS], arena[WORDS], pairs[2 * 512];
+static item records[512], merged[512];
+
+static unsigned level_of(size_t record) {
+    unsigned level = 1;
+    while (record % 4 == 0 && level < 8) {
+        record /= 4;
+        level++;
+    }
+    return level;
+}
+
+static void put_size(uint8_t *bytes, uint32_t height, uint32_t width) {
+    bytes[0] = (uint8_t)(height / 256);
+    bytes[1] = (uint8_t)(height % 256);
+    bytes[2] = (uint8_t)(width / 256);
+    bytes[3] = (uint8_t)(width % 256);
+}
+
+// Record r has m 2(K + 1 - r), so that gaps have odd m, and p 10 r.
+static void make_list(size_t k) {
+    static uint8_t sizes[4 * 512], levels[512];
+    for (size_t r = 1; r <= k; r++) {
+        records[r - 1] = (item){(uint32_t)(2 * (k + 1 - r)), (uint32_t)(10 * r)};
+        put_size(sizes + 4 * (r - 1), records[r - 1].m, records[r - 1].p);
+        levels[r - 1] = (uint8_t)level_of(r);
+    }
+    lazy_load(fresh, LIST, 1, sizes, levels, k);
+}
+
+// A fresh arena with the list and, as record K + 1, the item.
+static void make_arena(size_t k, item one) {
+    uint8_t size[4], level = (uint8_t)level_of(k + 1);
+    memcpy(arena, fresh, sizeof arena);
+    put_size(size, one.m, one.p);
+    lazy_load(arena, ITEM, k + 1, size, &level, 1);
+}
+
+static void check(size_t expected) {
+    if (lazy_items(arena, RESULT, pairs) != expected || memcmp(pairs, merged, expected * sizeof(item)) != 0) {
+        fprintf(stderr, "the merge differs from the plain one\n");
+        exit(1);
+    }
+}
+
+static void merge_at(const char *engine, int is_older, size_t k, item one) {
+    size_t older = is_older ? ITEM : LIST, newer = is_older ? LIST : ITEM;
+    size_t expected = is_older ? plain_merge(&one, 1, records, k, merged) : plain_merge(records, k, &one, 1, merged);
+    if (strcmp(engine, "plain") == 0) return;
+    make_arena(k, one);
+    if (strcmp(engine, "rattle") == 0) {
+        rattle_merge(arena, WORDS, older, newer, RESULT);
+    } else {
+        lazy_merge(arena, older, newer, RESULT);
+    }
+    check(expected);
+}
+
+int main(int argc, char **argv) {
+    if (argc != 5) return 2;
+    int is_older = strcmp(argv[2], "older") == 0, is_tie = strcmp(argv[3], "tie") == 0;
+    size_t k = (size_t)atoi(argv[4]), merges = 0;
+    make_list(k);
+    for (size_t m = is_tie ? 2 : 1; m <= 2 * k + 1; m += 2) {
+        merge_at(argv[1], is_older, k, (item){(uint32_t)m, 7});
+        merges++;
+    }
+    printf("%zu\n", merges);
+    return 0;
+}

@@ -1,0 +1,289 @@
+-- Two parts that were joined are one part: the record-carrying merge of their lists, each turned where it ran the other way.
+-- Their records are neighbouring ranges and the heads are no size's records, so that each call leaves what the next one needs.
+use mathlib.Core.Path.{_≡_, refl, sym, ap, ap₂, subst, _∙_}
+use mathlib.Core.Bool.{Bool, true, false, cond}
+use mathlib.Core.List.{List, [], _∷_, List·Memᴰ, List·Memᴰ·head, List·Memᴰ·tail}
+use Prim.Native.Nat.{ℕ, _+_, _*_, _-_, _^_, _≤_, _<_}
+use native.Mathlib.Omega.{arith}
+use lib.ListN.{length, getD}
+use Rattle.slicing.specs.Good.{Ordered}
+use Rattle.slicing.specs.Recorded.{Recorded, mergeRecorded, items}
+use Rattle.arena.specs.Arena.{level, mWord}
+use Rattle.arena.specs.Lazy.{held}
+use Rattle.arena.specs.Chain.{Has, All, Away, Same}
+use Rattle.arena.proofs.Cases.{lt-or-ge}
+use Rattle.arena.proofs.Frames.{all-map}
+use Rattle.arena.proofs.PutLaws.{same-trans}
+use Rattle.merging.specs.Merge.{Mergeable, Merged}
+use Rattle.parts.specs.Part.{headOf, Part, Suits}
+use Rattle.parts.specs.Copying.{Copied}
+use Rattle.parts.specs.Joining.{turnedIf, Ranged, Turns, Faces, Joinable, Joined}
+use Rattle.parts.proofs.PartLaws.{away-out, part-length, part-frame, part-copied}
+
+-- What holds of the m of each item holds of the m of each record.
+held-all : (P : ℕ → Type 0) (a : List ℕ) (h : ℕ) (before rs : List ℕ) → ((x : Recorded) → List·Memᴰ x (held a h before rs) → P (x .item .m)) → All (λ x. P (mWord a x)) rs
+unfolding held
+held-all P a h before [] f = tt
+held-all P a h before (r ∷ rs) f = (f _ (List·Memᴰ·head refl), held-all P a h _ rs (λ x i. f x (List·Memᴰ·tail i)))
+
+-- Records that are all inside a range, since none outside it is one of them.
+inside-of : (lo hi : ℕ) (rs : List ℕ) → ((x : ℕ) → ((lo ≤ x) × (x < hi) → ⊥) → Away x rs) → All (λ x. (lo ≤ x) × (x < hi)) rs
+inside-of lo hi [] h = tt
+inside-of lo hi (r ∷ rs) h =
+    (lt-or-ge r lo (λ low. absurd (h r (λ i. let u = i .0 in omega arith) .0 refl))
+    (λ from. lt-or-ge r hi (λ to. (from, to)) (λ high. absurd (h r (λ i. let u = i .1 in omega arith) .0 refl))),
+    inside-of lo hi rs (λ x out. h x out .1))
+
+-- One of two numbers is not a third.
+cond-ne : (s : Bool) (u v x : ℕ) → (u ≡ x → ⊥) → (v ≡ x → ⊥) → cond s u v ≡ x → ⊥
+cond-ne true u v x p q = p
+cond-ne false u v x p q = q
+
+cond-high : (s : Bool) (u v x : ℕ) → x ≤ u → x ≤ v → x ≤ cond s u v
+cond-high true u v x p q = p
+cond-high false u v x p q = q
+
+heads-apart : (s t : Bool) (place : ℕ) → place < 63 → cond s 577 (513 + place) ≡ cond t 578 (513 + (place + 1)) → ⊥
+heads-apart true true place low e = omega arith
+heads-apart true false place low e = omega arith
+heads-apart false true place low e = omega arith
+heads-apart false false place low e = omega arith
+
+-- Two parts of neighbouring ranges can be merged to record 0.
+module _ (levels c : List ℕ) (x y lo mid hi : ℕ) (l k : List Recorded) (p : Part levels c x lo mid l) (q : Part levels c y mid hi k) (older-range : Ranged c lo mid) (newer-range : Ranged c mid hi) (older-suits : Suits l) (newer-suits : Suits k) (x-high : 513 ≤ x) (y-high : 513 ≤ y) (apart : x ≡ y → ⊥) where
+  off : (low high z : ℕ) (rs : List ℕ) → high ≤ z → All (λ u. (low ≤ u) × (u < high)) rs → Away z rs
+  off low high z rs above inside = away-out low high z rs (λ i. let v = i .1 in omega arith) inside
+
+  below : (low high z : ℕ) (rs : List ℕ) → z < low → All (λ u. (low ≤ u) × (u < high)) rs → Away z rs
+  below low high z rs under inside = away-out low high z rs (λ i. let v = i .0 in omega arith) inside
+
+  room : (h low high : ℕ) (g : List Recorded) (z : Part levels c h low high g) → Suits g → All (λ u. mWord c u + 1 < 2 ^ 32) (z .list)
+  room h low high g z suits =
+      all-map (z .list) (λ u few. omega arith)
+      (held-all (λ m. m ≤ 64_000) c h [] (z .list) (λ u i. suits .low u (subst (λ (r : List Recorded). List·Memᴰ u r) (z .holds) i) .0))
+
+  pub mergeable : Mergeable c x y 0 (p .list) (q .list)
+  mergeable =
+      let long = older-range .long in
+      let some = older-range .some in
+      let later = newer-range .some in
+      let most = newer-range .most in
+      let middle = older-range .most in
+      record {
+        older = p .built .linked;
+        newer = q .built .linked;
+        result-has = omega arith;
+        older-newer = apart;
+        older-result = λ e. omega arith;
+        newer-result = λ e. omega arith;
+        older-off-newer = off mid hi x (q .list) (omega arith) (q .inside);
+        newer-off-older = off lo mid y (p .list) (omega arith) (p .inside);
+        result-off-older = below lo mid 0 (p .list) (omega arith) (p .inside);
+        result-off-newer = below mid hi 0 (q .list) (omega arith) (q .inside);
+        lists-apart = all-map (p .list) (λ u i. let v = i .1 in below mid hi u (q .list) v (q .inside)) (p .inside);
+        older-few = let few = older-suits .few in let same = part-length levels c c x lo mid l p in omega arith;
+        newer-few = let few = newer-suits .few in let same = part-length levels c c y mid hi k q in omega arith;
+        older-order = subst (λ (r : List Recorded). Ordered (items r)) (sym (p .holds)) (older-suits .ordered);
+        newer-order = subst (λ (r : List Recorded). Ordered (items r)) (sym (q .holds)) (newer-suits .ordered);
+        small = λ u v i j.
+            let first = older-suits .low u (subst (λ (r : List Recorded). List·Memᴰ u r) (p .holds) i) .1 in
+            let second = newer-suits .low v (subst (λ (r : List Recorded). List·Memᴰ v r) (q .holds) j) .1 in
+            omega arith;
+        older-room = room x lo mid l p older-suits;
+        newer-room = room y mid hi k q newer-suits;
+      }
+
+  pub merged-part : (d : List ℕ) → Merged c d x y 0 (p .list) (q .list) → Part levels d 0 lo hi (mergeRecorded 0 l k)
+  merged-part d m =
+      let some = older-range .some in
+      let first = older-range .upward in
+      let second = newer-range .upward in
+      record {
+        list = m .list;
+        built = m .built;
+        holds = m .holds ∙ ap₂ (mergeRecorded 0) (p .holds) (q .holds);
+        inside =
+            inside-of lo hi (m .list)
+            (λ u out.
+            m .records u (away-out lo mid u (p .list) (λ i. let v = i .1 in out (i .0, omega arith)) (p .inside)) (away-out mid hi u (q .list) (λ i. let v = i .0 in out (omega arith, i .1)) (q .inside)));
+        level-is = λ u v w.
+            m .level-kept u (λ e. omega arith)
+            ∙ lt-or-ge u mid (λ less. p .level-is u v less) (λ more. q .level-is u more w);
+      }
+
+-- The join, call by call.
+module _ (levels a : List ℕ) (place lo mid hi : ℕ) (l k : List Recorded) (s t : Bool) (g : Joinable levels a place lo mid hi l k s t) where
+  abbrev older-head : ℕ
+  older-head = headOf place
+
+  abbrev newer-head : ℕ
+  newer-head = headOf (place + 1)
+
+  pub older-turns : Turns levels a older-head 577 lo mid l
+  older-turns =
+      let low = g .low-place in
+      record {
+        ranged = g .older-range;
+        head-high = omega arith;
+        spare-high = omega arith;
+        spare-low = omega arith;
+        apart = λ e. omega arith;
+        few = g .older-few;
+        part = g .older;
+      }
+
+  -- The older part faces the join.
+  module _ (b : List ℕ) (x : ℕ) (f : Faces levels a b older-head 577 lo mid l s x) where
+    ranged-after : (low high : ℕ) → Ranged a low high → Ranged b low high
+    ranged-after low high r =
+        let long = r .long in
+        let same = f .length-kept in
+        record { long = omega arith; some = r .some; upward = r .upward; most = r .most }
+
+    pub newer-turns : Turns levels b newer-head 578 mid hi k
+    newer-turns =
+        let low = g .low-place in
+        let most = g .newer-range .most in
+        let middle = g .older-range .most in
+        record {
+          ranged = ranged-after mid hi (g .newer-range);
+          head-high = omega arith;
+          spare-high = omega arith;
+          spare-low = omega arith;
+          apart = λ e. omega arith;
+          few = g .newer-few;
+          part =
+              part-frame levels a b newer-head mid hi k (g .newer) (f .length-kept)
+              (λ z u v. f .outside z (λ e. omega arith) (λ i. let w = i .1 in omega arith))
+              (f .outside newer-head (λ e. omega arith) (λ i. let w = i .1 in omega arith)) (λ i. let w = i .1 in omega arith);
+        }
+
+    -- And so does the newer one.
+    module _ (c : List ℕ) (y : ℕ) (h : Faces levels b c newer-head 578 mid hi k t y) where
+      pub x-high : 513 ≤ x
+      x-high = subst (λ (z : ℕ). 513 ≤ z) (sym (f .head)) (cond-high s 577 older-head 513 (omega arith) (omega arith))
+
+      y-high : 513 ≤ y
+      y-high = subst (λ (z : ℕ). 513 ≤ z) (sym (h .head)) (cond-high t 578 newer-head 513 (omega arith) (omega arith))
+
+      pub x-other : (z : ℕ) → (577 ≡ z → ⊥) → (older-head ≡ z → ⊥) → x ≡ z → ⊥
+      x-other z p q e = cond-ne s 577 older-head z p q (sym (f .head) ∙ e)
+
+      y-other : (z : ℕ) → (578 ≡ z → ⊥) → (newer-head ≡ z → ⊥) → y ≡ z → ⊥
+      y-other z p q e = cond-ne t 578 newer-head z p q (sym (h .head) ∙ e)
+
+      x-y : x ≡ y → ⊥
+      x-y e = heads-apart s t place (g .low-place) (sym (f .head) ∙ e ∙ h .head)
+
+      abbrev older-part : Part levels c x lo mid (turnedIf s l)
+      older-part =
+          let low = g .low-place in
+          let middle = g .older-range .most in
+          let high = x-high in
+          let from = g .newer-range .upward in
+          part-frame levels b c x lo mid (turnedIf s l) (f .part) (h .length-kept)
+          (λ z u v. h .outside z (λ e. omega arith) (λ i. let w = i .0 in omega arith))
+          (h .outside x (x-other 578 (λ e. omega arith) (λ e. omega arith)) (λ i. let w = i .1 in let most = g .newer-range .most in omega arith))
+          (λ i. let w = i .1 in omega arith)
+
+      ranged-now : (low high : ℕ) → Ranged a low high → Ranged c low high
+      ranged-now low high r =
+          let long = r .long in
+          let same = f .length-kept in
+          let again = h .length-kept in
+          record { long = omega arith; some = r .some; upward = r .upward; most = r .most }
+
+      pub join-mergeable : Mergeable c x y 0 (older-part .list) (h .part .list)
+      join-mergeable =
+          mergeable levels c x y lo mid hi (turnedIf s l) (turnedIf t k) older-part (h .part) (ranged-now lo mid (g .older-range)) (ranged-now mid hi (g .newer-range)) (g .older-suits) (g .newer-suits) x-high y-high x-y
+
+      -- The merge stands at record 0, and is copied to the older part's head.
+      module _ (d : List ℕ) (m : Merged c d x y 0 (older-part .list) (h .part .list)) (e : List ℕ) (copied : Copied d 0 older-head e) where
+        root : Part levels d 0 lo hi (mergeRecorded 0 (turnedIf s l) (turnedIf t k))
+        root =
+            merged-part levels c x y lo mid hi (turnedIf s l) (turnedIf t k) older-part (h .part) (ranged-now lo mid (g .older-range)) (ranged-now mid hi (g .newer-range)) (g .older-suits) (g .newer-suits) x-high y-high x-y d m
+
+        same-all : (z : ℕ) → 1 ≤ z → (577 ≡ z → ⊥) → (578 ≡ z → ⊥) → (older-head ≡ z → ⊥) → (newer-head ≡ z → ⊥) → ((lo ≤ z) × (z < mid) → ⊥) → ((mid ≤ z) × (z < hi) → ⊥) → Same a e z
+        same-all z some p q r w off-older off-newer =
+            same-trans a b e z (f .outside z (λ u. p (sym u)) off-older)
+            (same-trans b c e z (h .outside z (λ u. q (sym u)) off-newer)
+            (same-trans c d e z
+            (m .outside z (x-other z p r) (y-other z q w) (λ u. omega arith) (away-out lo mid z (older-part .list) off-older (older-part .inside))
+            (away-out mid hi z (h .part .list) off-newer (h .part .inside)))
+            (copied .outside z (λ u. r (sym u)))))
+
+        pub joined : Joined levels a e place lo mid hi l k s t
+        joined =
+            let low = g .low-place in
+            let most = g .newer-range .most in
+            let middle = g .older-range .most in
+            let first = g .older-range .upward in
+            let second = g .newer-range .upward in
+            let long = g .older-range .long in
+            let l1 = f .length-kept in
+            let l2 = h .length-kept in
+            let l3 = m .length-kept in
+            record {
+              length-kept = copied .length-kept ∙ l3 ∙ l2 ∙ l1;
+              part =
+                  part-copied levels d e 0 older-head lo hi (mergeRecorded 0 (turnedIf s l) (turnedIf t k)) root (omega arith)
+                  (λ i. let w = i .1 in omega arith) copied;
+              outside = λ z some. (
+                λ under.
+                    same-all z some (λ u. omega arith) (λ u. omega arith) (λ u. omega arith) (λ u. omega arith) (λ i. let w = i .0 in omega arith)
+                    (λ i. let w = i .0 in omega arith),
+                λ high less.
+                    same-all z some (λ u. omega arith) (λ u. omega arith) (λ u. omega arith) (λ u. omega arith) (λ i. let w = i .1 in omega arith)
+                    (λ i. let w = i .1 in omega arith),
+              );
+            }
+
+-- What the function's calls ask, and what it promises.
+abbrev Ready : List ℕ → ℕ → Bool → Bool → Type 0
+Ready a place s t =
+    (levels : List ℕ) × (lo : ℕ) × (mid : ℕ) × (hi : ℕ) × (l : List Recorded) × (k : List Recorded) × Joinable levels a place lo mid hi l k s t
+
+-- What `facing` promises.
+abbrev Facing : (a b : List ℕ) (h spare : ℕ) (t : Bool) (r : ℕ) → Type 0
+Facing a b h spare t r =
+    (levels : List ℕ) (lo hi : ℕ) (l : List Recorded) → Turns levels a h spare lo hi l → Faces levels a b h spare lo hi l t r
+
+module _ (a : List ℕ) (place : ℕ) (s t : Bool) where
+  pub join-older : Ready a place s t → (levels : List ℕ) × (lo : ℕ) × (hi : ℕ) × (l : List Recorded) × Turns levels a (headOf place) 577 lo hi l
+  join-older p =
+      (p .0, p .1, p .2, p .4, older-turns (p .0) a place (p .1) (p .2) (p .3) (p .4) (p .5) s t (p .6))
+
+  module _ (b : List ℕ) (x : ℕ) (f : Facing a b (headOf place) 577 s x) where
+    abbrev older-faces : (levels : List ℕ) (lo mid hi : ℕ) (l k : List Recorded) → Joinable levels a place lo mid hi l k s t → Faces levels a b (headOf place) 577 lo mid l s x
+    older-faces levels lo mid hi l k g = f levels lo mid l (older-turns levels a place lo mid hi l k s t g)
+
+    pub join-newer : Ready a place s t → (levels : List ℕ) × (lo : ℕ) × (hi : ℕ) × (l : List Recorded) × Turns levels b (headOf (place + 1)) 578 lo hi l
+    join-newer p =
+        (p .0, p .2, p .3, p .5, newer-turns (p .0) a place (p .1) (p .2) (p .3) (p .4) (p .5) s t (p .6) b x (older-faces (p .0) (p .1) (p .2) (p .3) (p .4) (p .5) (p .6)))
+
+    module _ (c : List ℕ) (y : ℕ) (h : Facing b c (headOf (place + 1)) 578 t y) where
+      abbrev newer-faces : (levels : List ℕ) (lo mid hi : ℕ) (l k : List Recorded) → Joinable levels a place lo mid hi l k s t → Faces levels b c (headOf (place + 1)) 578 mid hi k t y
+      newer-faces levels lo mid hi l k g =
+          h levels mid hi k (newer-turns levels a place lo mid hi l k s t g b x (older-faces levels lo mid hi l k g))
+
+      pub join-merges : Ready a place s t → (xs : List ℕ) × (ys : List ℕ) × Mergeable c x y 0 xs ys
+      join-merges p =
+          (_, _, join-mergeable (p .0) a place (p .1) (p .2) (p .3) (p .4) (p .5) s t (p .6) b x (older-faces (p .0) (p .1) (p .2) (p .3) (p .4) (p .5) (p .6)) c y (newer-faces (p .0) (p .1) (p .2) (p .3) (p .4) (p .5) (p .6)))
+
+      module _ (d : List ℕ) (m : (xs ys : List ℕ) → Mergeable c x y 0 xs ys → Merged c d x y 0 xs ys) where
+        pub join-copies : Ready a place s t → Has d 0 × Has d (headOf place)
+        join-copies p =
+            let g = p .6 in
+            let made = m _ _ (join-merges p .2) in
+            let l1 = older-faces (p .0) (p .1) (p .2) (p .3) (p .4) (p .5) g .length-kept in
+            let l2 = newer-faces (p .0) (p .1) (p .2) (p .3) (p .4) (p .5) g .length-kept in
+            let l3 = made .length-kept in
+            let long = g .older-range .long in
+            let low = g .low-place in
+            (omega arith, omega arith)
+
+        pub join-done : (e : List ℕ) → Copied d 0 (headOf place) e → (levels : List ℕ) (lo mid hi : ℕ) (l k : List Recorded) → Joinable levels a place lo mid hi l k s t → Joined levels a e place lo mid hi l k s t
+        join-done e copied levels lo mid hi l k g =
+            let f₁ = older-faces levels lo mid hi l k g in
+            let h₁ = newer-faces levels lo mid hi l k g in
+            joined levels a place lo mid hi l k s t g b x f₁ c y h₁ d (m _ _ (join-mergeable levels a place lo mid hi l k s t g b x f₁ c y h₁)) e copied

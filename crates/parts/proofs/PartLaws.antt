@@ -1,0 +1,91 @@
+-- A part's list stands as long as its head and the records of its range do, and goes with its head to another record.
+-- Everything said of a part is said of the words of these records.
+use mathlib.Core.Path.{_≡_, refl, sym, ap, subst, _∙_}
+use mathlib.Core.List.{List, [], _∷_}
+use Prim.Native.Nat.{ℕ, suc, _+_, _-_, _≤_, _<_}
+use native.Mathlib.Omega.{arith}
+use lib.ListN.{length, getD}
+use Rattle.slicing.specs.Recorded.{Recorded}
+use Rattle.arena.specs.Arena.{stride, word, level, adjust}
+use Rattle.arena.specs.Lazy.{nextWith, held}
+use Rattle.arena.specs.Chain.{Has, All, Away, Links, Linked, Same}
+use Rattle.arena.specs.Building.{Built}
+use Rattle.arena.proofs.Frames.{all-map, all-both, same-shape, next-frame, chain-frame, linked-frame}
+use Rattle.merging.specs.Carried.{carried}
+use Rattle.merging.proofs.HeldLaws.{held-carried}
+use Rattle.merging.proofs.CarriedLaws.{carried-same}
+use Rattle.parts.specs.Part.{Part}
+use Rattle.parts.specs.Copying.{Copied}
+
+-- A record outside the range is none of the list.
+pub away-out : (lo hi x : ℕ) (rs : List ℕ) → ((lo ≤ x) × (x < hi) → ⊥) → All (λ y. (lo ≤ y) × (y < hi)) rs → Away x rs
+away-out lo hi x rs out inside =
+    all-map rs (λ y i e. out (subst (λ (z : ℕ). (lo ≤ z) × (z < hi)) e i)) inside
+
+pub held-length : (a : List ℕ) (h : ℕ) (before rs : List ℕ) → length (held a h before rs) ≡ length rs
+unfolding held
+held-length a h before [] = refl
+held-length a h before (r ∷ rs) = ap suc (held-length a h _ rs)
+
+module _ (levels a b : List ℕ) (h lo hi : ℕ) (l : List Recorded) (p : Part levels a h lo hi l) where
+  pub part-length : length (p .list) ≡ length l
+  part-length = sym (held-length a h [] (p .list)) ∙ ap length (p .holds)
+
+  -- The records of the list are as they were, and the head k has what h had.
+  module _ (long : length b ≡ length a) (same : (x : ℕ) → lo ≤ x → x < hi → Same a b x) where
+    list-same : All (Same a b) (p .list)
+    list-same = all-map (p .list) (λ x i. same x (i .0) (i .1)) (p .inside)
+
+    levels-same : (x : ℕ) → lo ≤ x → x < hi → level b x ≡ getD levels (x - 1) 0
+    levels-same x u v = same x u v .at 0 (omega arith) ∙ p .level-is x u v
+
+    module _ (k : ℕ) (words : (j : ℕ) → j < stride → word b k j ≡ word a h j) where
+      moved-sums : (i : ℕ) → i < 8 → adjust b k i ≡ adjust a h i
+      moved-sums i few = words (11 + i) (omega arith)
+
+      moved-holds : held b k [] (p .list) ≡ l
+      moved-holds =
+          held-carried b k (p .list) ∙ carried-same a b (adjust a h) (adjust b k) (p .list) moved-sums list-same
+          ∙ sym (held-carried a h (p .list))
+          ∙ p .holds
+
+      moved-built : Has a k → Away k (p .list) → Built b k (p .list)
+      moved-built has away =
+          let linked = p .built .linked in
+          let top = linked .top in
+          let level-same = words 0 (omega arith) in
+          record {
+            linked =
+                record {
+                  has = omega arith;
+                  top = level-same ∙ top;
+                  links =
+                      record {
+                        at = λ i less.
+                            words (3 + i) (omega arith) ∙ linked .links .at i (omega arith)
+                            ∙ sym (next-frame a b i (p .list) (all-map (p .list) (λ x s. s .at 0 (omega arith)) list-same));
+                      };
+                  away = away;
+                  chain = chain-frame a b (p .list) long (all-map (p .list) (λ x s. same-shape a b x s) list-same) (linked .chain);
+                };
+            still = λ i few. moved-sums i few ∙ p .built .still i few;
+          }
+
+      pub part-moved : Has a k → ((lo ≤ k) × (k < hi) → ⊥) → Part levels b k lo hi l
+      part-moved has out =
+          record {
+            list = p .list;
+            built = moved-built has (away-out lo hi k (p .list) out (p .inside));
+            holds = moved-holds;
+            inside = p .inside;
+            level-is = levels-same;
+          }
+
+    pub part-frame : Same a b h → ((lo ≤ h) × (h < hi) → ⊥) → Part levels b h lo hi l
+    part-frame here out = part-moved h (here .at) (p .built .linked .has) out
+
+-- The head was copied.
+pub part-copied : (levels a b : List ℕ) (h k lo hi : ℕ) (l : List Recorded) → Part levels a h lo hi l → Has a k → ((lo ≤ k) × (k < hi) → ⊥) → Copied a h k b → Part levels b k lo hi l
+part-copied levels a b h k lo hi l p has out c =
+    part-moved levels a b h lo hi l p (c .length-kept)
+    (λ x u v. c .outside x (λ e. out (subst (λ (z : ℕ). (lo ≤ z) × (z < hi)) e (u, v)))) k (c .words) has out

@@ -1,0 +1,4 @@
+pub mod Part
+pub mod Copying
+pub mod Joining
+pub mod Building

@@ -1,0 +1,119 @@
+-- Checks 14 to 18 as the code asks them: each way out has the number that the definition has there, and what is taken has passed them all.
+-- The levels that are left after i of them decide as all do where these i are in range.
+use mathlib.Core.Path.{_≡_, refl, sym, ap, subst, _∙_}
+use mathlib.Core.Bool.{Bool, true, false, _&&_, not}
+use mathlib.Core.List.{List, [], _∷_}
+use Prim.Native.Nat.{ℕ, zero, suc, _+_, _*_, _-_, _≤_, _<_}
+use native.Mathlib.Numerals.{add-one}
+use native.Mathlib.Omega.{arith}
+use lib.Dec.{leb, eqb}
+use lib.ListN.{length, getD, drop, drop-of-length-le}
+use lib.Seq.{drop-cons}
+use borrow.Author.Tests.{leb-true, eqb-true, le-leb, lt-leb, eq-eqb, ne-eqb, not-true, not-false}
+use Rattle.checks.specs.Check.{LevelCount, LevelRange, Buffers, Output, numberOf}
+use Rattle.checks.specs.Answer.{Answer, taken, ask, number}
+use Rattle.checks.proofs.Answers.{ask-taken, number-taken}
+use Rattle.facefile.proofs.Took.{both-true}
+use Rattle.shapes.specs.Listing.{levelsInRange, lentChecks}
+
+-- What the loop over the levels keeps.
+pub record Checked (levels : List ℕ) (i : ℕ) : Type 0 where
+  pub inside : i ≤ length levels
+  pub same : levelsInRange (drop i levels) ≡ levelsInRange levels
+
+pub checked-start : (levels : List ℕ) → Checked levels 0
+checked-start levels = record { inside = omega arith; same = refl }
+
+module _ (levels : List ℕ) (i : ℕ) (k : Checked levels i) (more : i < length levels) where
+  first : levelsInRange (drop i levels) ≡ (leb 1 (getD levels i 0) && leb (getD levels i 0) 8 && levelsInRange (drop (suc i) levels))
+  first = ap levelsInRange (drop-cons levels i 0 more)
+
+  pub checked-low : getD levels i 0 < 1 → false ≡ levelsInRange levels
+  checked-low low = sym (sym (k .same) ∙ first ∙ simp (lt-leb 1 (getD levels i 0) low))
+
+  pub checked-high : 1 ≤ getD levels i 0 → 8 < getD levels i 0 → false ≡ levelsInRange levels
+  checked-high some high = sym (sym (k .same) ∙ first ∙ simp (le-leb 1 (getD levels i 0) some, lt-leb (getD levels i 0) 8 high))
+
+  pub checked-more : 1 ≤ getD levels i 0 → getD levels i 0 ≤ 8 → Checked levels (i + 1)
+  checked-more some most =
+      record {
+        inside = omega arith;
+        same =
+            ap (λ (j : ℕ). levelsInRange (drop j levels)) (add-one i)
+            ∙ sym (first ∙ simp (le-leb 1 (getD levels i 0) some, le-leb (getD levels i 0) 8 most))
+            ∙ k .same;
+      }
+
+pub checked-all : (levels : List ℕ) (i : ℕ) → Checked levels i → length levels ≤ i → true ≡ levelsInRange levels
+checked-all levels i k over = sym (sym (k .same) ∙ ap levelsInRange (drop-of-length-le levels over))
+
+-- Each level is in range where they all are.
+pub level-in : (levels : List ℕ) (i : ℕ) → i < length levels → levelsInRange levels ≡ true → (1 ≤ getD levels i 0) × (getD levels i 0 ≤ 8)
+level-in [] i less e = absurd (omega arith)
+level-in (l ∷ levels) zero less e =
+    let both = both-true (leb 1 l && leb l 8) (levelsInRange levels) e in
+    let own = both-true (leb 1 l) (leb l 8) (both .0) in
+    (leb-true 1 l (own .0), leb-true l 8 (own .1))
+level-in (l ∷ levels) (suc i) less e =
+    level-in levels i (omega arith) (both-true (leb 1 l && leb l 8) (levelsInRange levels) e .1)
+
+module _ (n g : ℕ) (levels : List ℕ) (arena scratch output : ℕ) where
+  pub lent-count : (length levels ≡ n → ⊥) → 14 ≡ number (lentChecks n g levels arena scratch output)
+  unfolding lentChecks
+  lent-count other = simp (ne-eqb (length levels) n other)
+
+  module _ (as-many : length levels ≡ n) where
+    pub lent-range : (b : Bool) → b ≡ levelsInRange levels → not b ≡ true → 15 ≡ number (lentChecks n g levels arena scratch output)
+    unfolding lentChecks
+    lent-range b e out = simp (eq-eqb (length levels) n as-many, sym e ∙ not-true b out)
+
+    module _ (b : Bool) (e : b ≡ levelsInRange levels) (fine : not b ≡ false) where
+      in-range : levelsInRange levels ≡ true
+      in-range = sym e ∙ not-false b fine
+
+      pub lent-arena : arena < 16_384 → 17 ≡ number (lentChecks n g levels arena scratch output)
+      unfolding lentChecks
+      lent-arena short = simp (eq-eqb (length levels) n as-many, in-range, lt-leb 16_384 arena short)
+
+      module _ (arena-long : 16_384 ≤ arena) where
+        pub lent-scratch : scratch < 16_384 → 17 ≡ number (lentChecks n g levels arena scratch output)
+        unfolding lentChecks
+        lent-scratch short =
+            simp (eq-eqb (length levels) n as-many, in-range, le-leb 16_384 arena arena-long, lt-leb 16_384 scratch short)
+
+        module _ (scratch-long : 16_384 ≤ scratch) where
+          pub lent-output : output < 2 * (n - g + 1) → 18 ≡ number (lentChecks n g levels arena scratch output)
+          unfolding lentChecks
+          lent-output short =
+              simp
+              (eq-eqb (length levels) n as-many, in-range, le-leb 16_384 arena arena-long, le-leb 16_384 scratch scratch-long, lt-leb (2 * (n - g + 1)) output short)
+
+          pub lent-none : 2 * (n - g + 1) ≤ output → 0 ≡ number (lentChecks n g levels arena scratch output)
+          unfolding lentChecks
+          lent-none long =
+              simp
+              (eq-eqb (length levels) n as-many, in-range, le-leb 16_384 arena arena-long, le-leb 16_384 scratch scratch-long, le-leb (2 * (n - g + 1)) output long)
+
+  -- What was asked of a taken call.
+  pub record Lent : Type 0 where
+    pub as-many : length levels ≡ n
+    pub in-range : levelsInRange levels ≡ true
+    pub arena-long : 16_384 ≤ arena
+    pub scratch-long : 16_384 ≤ scratch
+    pub room : 2 * (n - g + 1) ≤ output
+
+  pub lent-taken : lentChecks n g levels arena scratch output ≡ taken tt → Lent
+  unfolding lentChecks
+  lent-taken e =
+      let count = ask-taken (eqb (length levels) n) LevelCount _ tt e in
+      let range = ask-taken (levelsInRange levels) LevelRange _ tt (count .1) in
+      let buffers = ask-taken (leb 16_384 arena && leb 16_384 scratch) Buffers _ tt (range .1) in
+      let out = ask-taken (leb (2 * (n - g + 1)) output) Output _ tt (buffers .1) in
+      let both = both-true (leb 16_384 arena) (leb 16_384 scratch) (buffers .0) in
+      record {
+        as-many = eqb-true (length levels) n (count .0);
+        in-range = range .0;
+        arena-long = leb-true 16_384 arena (both .0);
+        scratch-long = leb-true 16_384 scratch (both .1);
+        room = leb-true (2 * (n - g + 1)) output (out .0);
+      }

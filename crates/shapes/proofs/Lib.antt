@@ -1,0 +1,8 @@
+pub mod ListWalk
+pub mod WordLaws
+pub mod ItemLaws
+pub mod Heights
+pub mod Widths
+pub mod RootLaws
+pub mod LentLaws
+pub mod ListCall

@@ -1,0 +1,89 @@
+-- `shapes::write::write_by_height` meets its contract.
+-- The loop keeps `Heights`, that the items left, written from the place reached, give what all give from the start; the measure is the number of the records left, counted along the first link.
+use borrow.Author.Needs.{needs}
+use Rattle.arena.proofs.Walking.{count}
+use Rattle.shapes.proofs.ListWalk.{walk-less, walk-has}
+use Rattle.shapes.proofs.Heights.{Heights, head-summable, heights-start, heights-summable, heights-room, heights-more, heights-done}
+use Rattle.shapes.proofs.write.write_by_height.Statement.{statement}
+use Rattle.shapes.proofs.write.write_by_height.Tie as tie
+
+abbrev Inv-loop : tie.InvT-loop
+Inv-loop arena head output₀ sums₀ next₀ at₀ output sums next at = Heights arena head output₀ output sums next at
+
+abbrev μ-loop : tie.MeasureT-loop
+μ-loop arena head output₀ sums₀ next₀ at₀ output sums next at = count 512 arena next
+
+slice-aggregate-pass : tie.Need-slice-aggregate-pass Inv-loop μ-loop
+slice-aggregate-pass c = search needs
+
+pass-requires : tie.Need-pass-requires Inv-loop μ-loop
+pass-requires c κs = search (needs, head-summable)
+
+get-requires : tie.Need-get-requires Inv-loop μ-loop
+get-requires c κs = search needs
+
+loop-holds : tie.Need-loop-holds Inv-loop μ-loop
+loop-holds c = search (needs, heights-start)
+
+wide-requires : tie.Need-wide-requires Inv-loop μ-loop
+wide-requires c κs = search needs
+
+get-requires-2 : tie.Need-get-requires-2 Inv-loop μ-loop
+get-requires-2 c κs = search (needs, walk-has)
+
+get-requires-3 : tie.Need-get-requires-3 Inv-loop μ-loop
+get-requires-3 c κs = search (needs, walk-has)
+
+slice-aggregate-true-p : tie.Need-slice-aggregate-true-p Inv-loop μ-loop
+slice-aggregate-true-p c = search needs
+
+true-p-requires : tie.Need-true-p-requires Inv-loop μ-loop
+true-p-requires c κs = search (needs, heights-summable)
+
+write-item-requires : tie.Need-write-item-requires Inv-loop μ-loop
+write-item-requires c κs = search (needs, heights-room)
+
+slice-aggregate-pass-2 : tie.Need-slice-aggregate-pass-2 Inv-loop μ-loop
+slice-aggregate-pass-2 c = search needs
+
+pass-requires-2 : tie.Need-pass-requires-2 Inv-loop μ-loop
+pass-requires-2 c κs = search (needs, heights-summable)
+
+add-at : tie.Need-add-at Inv-loop μ-loop
+add-at c = search (needs, heights-room)
+
+loop-less : tie.Need-loop-less Inv-loop μ-loop
+loop-less c = search (needs, walk-less)
+
+loop-again : tie.Need-loop-again Inv-loop μ-loop
+loop-again c = search (needs, heights-more)
+
+same-length : tie.Need-same-length Inv-loop μ-loop
+same-length c = search needs
+
+returns : tie.Need-returns Inv-loop μ-loop
+returns c = heights-done _ _ _ _ _ _ _ (c .before .loop .inv) (c .loop-test .left)
+
+pub write-by-height-spec : {M : Type 1} → statement M
+write-by-height-spec =
+    tie.close
+    (tie.spec
+    Inv-loop
+    μ-loop
+    slice-aggregate-pass
+    pass-requires
+    get-requires
+    loop-holds
+    wide-requires
+    get-requires-2
+    get-requires-3
+    slice-aggregate-true-p
+    true-p-requires
+    write-item-requires
+    slice-aggregate-pass-2
+    pass-requires-2
+    add-at
+    loop-less
+    loop-again
+    same-length
+    returns)

@@ -1,0 +1,11 @@
+// The list of outer sizes of a face: the list call.
+mod listing;
+mod write;
+
+pub use listing::list;
+
+// What the list call answers: the number, and the item count, which is 0 where the number is not.
+pub struct Listed {
+    pub number: u32,
+    pub count: u32,
+}
