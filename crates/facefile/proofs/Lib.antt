@@ -14,3 +14,4 @@ pub mod Prefix
 pub mod Written
 pub mod Example
 pub mod PartArray
+pub mod Across

@@ -3,3 +3,4 @@ pub mod Gauge
 pub mod Summary
 pub mod Tracking
 pub mod Finding
+pub mod Kinds

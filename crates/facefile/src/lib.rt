@@ -2,10 +2,12 @@
 mod entry;
 mod field;
 mod gauge;
+mod kinds;
 mod reader;
 mod size_bytes;
 mod sizes;
 
+pub use kinds::runs_across;
 pub use reader::read;
 pub use size_bytes::gauge_bytes;
 

@@ -1,13 +1,10 @@
 -- A part's list, turned where it runs the other way than the join, is what the join's definition merges; it can be merged, and the merge is the join's list.
 -- Stacked parts run by width and others by height, which is how the list of each is defined.
 use mathlib.Core.Path.{_≡_, refl, sym, ap, ap₂, subst, _∙_}
-use mathlib.Core.Bool.{not}
 use mathlib.Core.List.{List}
 use Prim.Native.Nat.{ℕ, _+_, _*_, _≤_, _<_}
 use native.Mathlib.Omega.{arith}
-use lib.Dec.{eqb}
 use lib.ListN.{length, length-append}
-use borrow.Author.Tests.{eq-eqb, ne-eqb}
 use Rattle.slicing.specs.Tree.{Tree, gauge, beside, stacked, sizesOf, gaugeCount, sizeCount}
 use Rattle.slicing.specs.Good.{Good}
 use Rattle.slicing.specs.Recorded.{Recorded, mergeRecorded, turnRecorded, shapesRecorded, partRecorded}
@@ -16,16 +13,7 @@ use Rattle.slicing.proofs.PartLists.{part-gauge, part-beside, part-stacked, sha
 use Rattle.facefile.proofs.Took.{Cut, cut-beside, cut-stacked}
 use Rattle.parts.specs.Part.{Suits}
 use Rattle.parts.specs.Joining.{turnedIf}
-use Rattle.parts.specs.Building.{kindOf, across}
-
--- The two answers of the test.
-pub across-stacked : (part join : ℕ) → join ≡ 0x03 → not (eqb part 0x03) ≡ across part join
-unfolding across
-across-stacked part join e = simp (eq-eqb join 0x03 e)
-
-pub across-beside : (part join : ℕ) → (join ≡ 0x03 → ⊥) → eqb part 0x03 ≡ across part join
-unfolding across
-across-beside part join ne = simp (ne-eqb join 0x03 ne)
+use Rattle.facefile.specs.Kinds.{kindOf, across}
 
 beside-faces : (r : ℕ) (t : Tree) → turnedIf (across (kindOf t) 0x02) (partRecorded 0 r t) ≡ shapesRecorded 0 r t
 unfolding across

@@ -29,10 +29,11 @@ held-all P a h before (r ∷ rs) f = (f _ (List·Memᴰ·head refl), held-all P 
 -- Records that are all inside a range, since none outside it is one of them.
 inside-of : (lo hi : ℕ) (rs : List ℕ) → ((x : ℕ) → ((lo ≤ x) × (x < hi) → ⊥) → Away x rs) → All (λ x. (lo ≤ x) × (x < hi)) rs
 inside-of lo hi [] h = tt
-inside-of lo hi (r ∷ rs) h =
-    (lt-or-ge r lo (λ low. absurd (h r (λ i. let u = i .0 in omega arith) .0 refl))
-    (λ from. lt-or-ge r hi (λ to. (from, to)) (λ high. absurd (h r (λ i. let u = i .1 in omega arith) .0 refl))),
-    inside-of lo hi rs (λ x out. h x out .1))
+inside-of lo hi (r ∷ rs) h = (
+  lt-or-ge r lo (λ low. absurd (h r (λ i. let u = i .0 in omega arith) .0 refl))
+      (λ from. lt-or-ge r hi (λ to. (from, to)) (λ high. absurd (h r (λ i. let u = i .1 in omega arith) .0 refl))),
+  inside-of lo hi rs (λ x out. h x out .1),
+)
 
 -- One of two numbers is not a third.
 cond-ne : (s : Bool) (u v x : ℕ) → (u ≡ x → ⊥) → (v ≡ x → ⊥) → cond s u v ≡ x → ⊥

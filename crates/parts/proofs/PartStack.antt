@@ -32,8 +32,10 @@ pub parts-frame : (levels a b : List ℕ) (stack : List Tree) (hi : ℕ) → len
 parts-frame levels a b [] hi long most records heads p = p
 parts-frame levels a b (t ∷ stack) hi long most records heads p =
     let e = p .1 in
-    let some = parts-some levels a stack (p .0) (p .3) in
-    (p .0, e,
+    let some = parts-some levels a stack (p .0) (p .3) in (
+      p .0,
+      e,
       part-frame levels a b (headOf (length stack)) (p .0) hi (partRecorded 0 (p .0) t) (p .2) long (λ x u v. records x (omega arith) v)
-      (heads (length stack) (omega arith)) (λ i. let w = i .1 in omega arith),
-      parts-frame levels a b stack (p .0) long (omega arith) (λ x u v. records x u (omega arith)) (λ i less. heads i (omega arith)) (p .3))
+          (heads (length stack) (omega arith)) (λ i. let w = i .1 in omega arith),
+      parts-frame levels a b stack (p .0) long (omega arith) (λ x u v. records x u (omega arith)) (λ i less. heads i (omega arith)) (p .3),
+    )

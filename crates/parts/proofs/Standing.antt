@@ -28,7 +28,8 @@ use Rattle.arena.specs.Loading.{sizesIn, numbers, Loadable, Loaded}
 use Rattle.parts.specs.Part.{headOf, Part, Suits, Parts}
 use Rattle.parts.specs.Copying.{Copied}
 use Rattle.parts.specs.Joining.{turnedIf, Ranged, Joinable, Joined}
-use Rattle.parts.specs.Building.{kindOf, across, Buildable, Whole}
+use Rattle.facefile.specs.Kinds.{kindOf, across}
+use Rattle.parts.specs.Building.{Buildable, Whole}
 use Rattle.parts.proofs.PartLaws.{away-out, part-copied}
 use Rattle.parts.proofs.PartStack.{parts-some, parts-total, parts-frame}
 use Rattle.parts.proofs.LoadedPart.{from-in, in-same, in-length, numbers-inside, loaded-part}
@@ -323,9 +324,6 @@ module _ (file levels a₀ a kinds : List ℕ) (at parts done : ℕ) (k : Standi
     root : Parts levels a (face ∷ []) (done + 1)
     root = subst (λ (s : List Tree). Parts levels a s (done + 1)) last-stack (k .stands)
 
-    pub whole-copies : Has a 513 × Has a 0
-    whole-copies = let long = standing-long in (omega arith, omega arith)
-
     pub standing-whole : (b : List ℕ) (kind : ℕ) → Copied a 513 0 b → kind ≡ getD kinds 0 0 → (t : Tree) → faceOf file ≡ taken t → Whole file levels a₀ b kind t
     standing-whole b kind c kind-is t e =
         let same : face ≡ t = same-taken face t (sym (k .ready .face) ∙ e) in
@@ -337,5 +335,5 @@ module _ (file levels a₀ a kinds : List ℕ) (at parts done : ℕ) (k : Standi
         (record {
           length-kept = c .length-kept ∙ k .length-kept;
           kind-is = kind-is ∙ holds .0;
-          part = part-copied levels a b 513 0 1 (1 + sizeCount face) (partRecorded 0 1 face) here (whole-copies .1) (λ i. let w = i .0 in omega arith) c;
+          part = part-copied levels a b 513 0 1 (1 + sizeCount face) (partRecorded 0 1 face) here (let long = standing-long in omega arith) (λ i. let w = i .0 in omega arith) c;
         })

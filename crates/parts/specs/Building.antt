@@ -1,25 +1,14 @@
 -- The list of a whole face, built part by part from a taken file. No public contract cites it.
 use mathlib.Core.Path.{_≡_}
-use mathlib.Core.Bool.{Bool, cond, not}
 use mathlib.Core.List.{List}
 use Prim.Native.Nat.{ℕ, _+_, _≤_, _<_}
-use lib.Dec.{eqb}
 use lib.ListN.{length, getD}
 use Rattle.checks.specs.Answer.{taken}
-use Rattle.slicing.specs.Tree.{Tree, gauge, beside, stacked, sizeCount}
+use Rattle.slicing.specs.Tree.{Tree, sizeCount}
 use Rattle.slicing.specs.Recorded.{partRecorded}
 use Rattle.facefile.specs.Format.{faceOf}
+use Rattle.facefile.specs.Kinds.{kindOf}
 use Rattle.parts.specs.Part.{Part}
-
--- The kind byte of a part's last entry.
-abbrev pub kindOf : Tree → ℕ
-kindOf (gauge s) = 0x01
-kindOf (beside a b) = 0x02
-kindOf (stacked a b) = 0x03
-
--- Whether a part of one kind runs the other way than a join of the other kind: stacked parts run by width, others by height.
-unfoldable pub across : ℕ → ℕ → Bool
-across part join = cond (eqb join 0x03) (not (eqb part 0x03)) (eqb part 0x03)
 
 -- A taken file, with a level from 1 to 8 for each size, and room.
 pub record Buildable (file levels a : List ℕ) : Type 0 where

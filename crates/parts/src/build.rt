@@ -4,7 +4,7 @@ ghost use Prim.Native.Nat.{_<_};
 ghost use Rattle.checks.specs.Answer.{taken};
 ghost use Rattle.slicing.specs.Tree.{Tree};
 ghost use Rattle.facefile.specs.Format.{faceOf};
-ghost use Rattle.parts.specs.Building.{across, Buildable, Whole};
+ghost use Rattle.parts.specs.Building.{Buildable, Whole};
 use crate::heads::FIRST;
 use crate::heads::copy_head;
 use crate::join::join;
@@ -15,17 +15,6 @@ fn wide(x: u8) -> usize
     ensures { λ r. ⌜ (r ≡ x) × (r < 256) ⌝ }
 {
     x as usize
-}
-
-// Whether a part of one kind runs the other way than a join of the other kind: stacked parts run by width, all others
-// by height.
-fn runs_across(part: u8, join: u8) -> bool
-    ensures { λ r. ⌜ r ≡ across part join ⌝ }
-{
-    if join == facefile::STACKED {
-        return part != facefile::STACKED;
-    }
-    part == facefile::STACKED
 }
 
 // Builds the list of the whole face at record 0, each record with its lent level, and answers the kind of the face's
@@ -43,15 +32,21 @@ pub fn build(file: &[u8], levels: &[u8], arena: &mut [u32]) -> u8
         if kind == facefile::GAUGE {
             let count = wide(file[at + 1]);
             let end = at + 2 + 4 * count;
-            load(arena, FIRST + parts, size + 1, &file[at + 2..end], &levels[size..size + count]);
+            load(
+                arena,
+                FIRST + parts,
+                size + 1,
+                &file[at + 2..end],
+                &levels[size..size + count],
+            );
             kinds[parts] = kind;
             parts += 1;
             size += count;
             at = end;
         } else {
             let older = parts - 2;
-            let first = runs_across(kinds[older], kind);
-            let second = runs_across(kinds[older + 1], kind);
+            let first = facefile::runs_across(kinds[older], kind);
+            let second = facefile::runs_across(kinds[older + 1], kind);
             join(arena, older, first, second);
             kinds[older] = kind;
             parts -= 1;

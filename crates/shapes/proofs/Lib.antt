@@ -6,3 +6,4 @@ pub mod Widths
 pub mod RootLaws
 pub mod LentLaws
 pub mod ListCall
+pub mod Demand2

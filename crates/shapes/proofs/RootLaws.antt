@@ -23,7 +23,8 @@ use Rattle.arena.specs.Chain.{All}
 use Rattle.arena.proofs.Frames.{all-map}
 use Rattle.maxplus.proofs.Holds.{holds-lazy}
 use Rattle.parts.specs.Part.{Part}
-use Rattle.parts.specs.Building.{kindOf, Buildable, Whole}
+use Rattle.facefile.specs.Kinds.{kindOf}
+use Rattle.parts.specs.Building.{Buildable, Whole}
 use Rattle.parts.proofs.PartLaws.{held-length, part-length}
 use Rattle.shapes.specs.Listing.{listWords, writtenOver, RootList}
 use Rattle.shapes.specs.Writing.{Listable}

@@ -30,7 +30,14 @@ fn levels_in_range(levels: &[u8]) -> bool
 }
 
 // Checks 14 to 18, of the levels and of the lengths of the lent buffers: the number of the first that fails, or 0.
-fn lent_number(n: usize, g: usize, levels: &[u8], arena: usize, scratch: usize, output: usize) -> u32
+fn lent_number(
+    n: usize,
+    g: usize,
+    levels: &[u8],
+    arena: usize,
+    scratch: usize,
+    output: usize,
+) -> u32
     requires { ⌜ (g ≤ n) × (n ≤ 512) ⌝ }
     ensures { λ r. ⌜ r ≡ number (lentChecks n g (now (levels .entry)) arena scratch output) ⌝ }
 {
@@ -66,7 +73,13 @@ fn write_list(file: &[u8], levels: &[u8], arena: &mut [u32], output: &mut [u32])
 
 // Checks 1 to 18 but 16, then the outer sizes of the face in the output and in the arena. A refusal leaves every lent
 // buffer as it was.
-pub fn list(file: &[u8], levels: &[u8], arena: &mut [u32], scratch: &mut [u32], output: &mut [u32]) -> Listed
+pub fn list(
+    file: &[u8],
+    levels: &[u8],
+    arena: &mut [u32],
+    scratch: &mut [u32],
+    output: &mut [u32],
+) -> Listed
     ensures { λ r. ⌜ r ≡ listed (listCall (now (file .entry)) (now (levels .entry)) (now (arena .entry)) (now (scratch .entry)) (now (output .entry))) ⌝ }
     ensures { λ _. ⌜ now (output .exit) ≡ listOutput (listCall (now (file .entry)) (now (levels .entry)) (now (arena .entry)) (now (scratch .entry)) (now (output .entry))) (now (output .entry)) ⌝ }
     ensures { λ _. ⌜ ListArena (listCall (now (file .entry)) (now (levels .entry)) (now (arena .entry)) (now (scratch .entry)) (now (output .entry))) (now (levels .entry)) (now (arena .entry)) (now (arena .exit)) ⌝ }
@@ -76,7 +89,14 @@ pub fn list(file: &[u8], levels: &[u8], arena: &mut [u32], scratch: &mut [u32], 
     if face.number != checks::TAKEN {
         return refused(face.number);
     }
-    let number = lent_number(face.sizes, face.gauges, levels, arena.len(), scratch.len(), output.len());
+    let number = lent_number(
+        face.sizes,
+        face.gauges,
+        levels,
+        arena.len(),
+        scratch.len(),
+        output.len(),
+    );
     if number != checks::TAKEN {
         return refused(number);
     }

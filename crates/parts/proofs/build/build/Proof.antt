@@ -5,13 +5,12 @@ use Prim.Native.Nat.{_-_}
 use native.Mathlib.Omega.{arith}
 use lib.ListN.{length}
 use borrow.Author.Needs.{needs}
-use Rattle.parts.proofs.Standing.{Standing, standing-start, gauge-room, gauge-inside, levels-left, records-left, gauge-loads, standing-gauge, join-parts, join-few, join-ready, standing-join, whole-copies, standing-whole}
+use Rattle.parts.proofs.Standing.{Standing, standing-long, standing-start, gauge-room, gauge-inside, levels-left, records-left, gauge-loads, standing-gauge, join-parts, join-few, join-ready, standing-join, standing-whole}
 use Rattle.parts.proofs.build.build.Statement.{statement}
 use Rattle.parts.proofs.build.build.Tie as tie
 use Rattle.parts.proofs.build.build.Reads as reads
 use Rattle.parts.proofs.build.build.Lts as lts
 use Rattle.arena.proofs.load.load.Reads as load-reads
-use Rattle.parts.proofs.build.runs_across.Reads as runs-across-reads
 use Rattle.parts.proofs.build.wide.Reads as wide-reads
 use Rattle.parts.proofs.heads.copy_head.Reads as copy-head-reads
 use Rattle.parts.proofs.join.join.Reads as join-reads
@@ -205,7 +204,8 @@ loop-again-2 c =
 -- src/build.rt:61:5
 copy-head-requires : tie.Need-copy-head-requires Inv-loop μ-loop
 copy-head-requires c κs =
-    whole-copies _ _ _ _ _ _ _ _ (c .before .before .loop .inv) (c .before .loop-test .left)
+    let long = standing-long _ _ _ _ _ _ _ _ (c .before .before .loop .inv) in
+    (omega arith, omega arith)
 
 -- src/build.rt:62:5
 array-read-result : tie.Need-array-read-result Inv-loop μ-loop

@@ -33,7 +33,7 @@ same-length-2 c = search needs
 
 -- src/listing.rt:62:9
 returns : tie.Need-returns
-returns c = writes-width _ _ _ _ _ _ (c .before .before .before .before .before .before .before .before .build .ensures) (c .before .before .before .before .before .before .before .before .before .before .before .before .before .before .pre) _ _ (c .before .before .before .before .before .if1 .taken) (c .before .before .write-by-width .ensures)
+returns c = writes-width _ _ _ _ _ _ (c .before .before .before .before .before .before .before .before .build .ensures) (c .before .before .before .before .before .before .before .before .before .before .before .before .before .before .pre) _ _ (let t = c .before .before .before .before .before .if1 .taken in omega arith) (c .before .before .write-by-width .ensures)
 
 -- src/listing.rt:64:5
 write-by-height-requires : tie.Need-write-by-height-requires
@@ -53,7 +53,7 @@ same-length-4 c = search needs
 
 -- src/listing.rt:56:1
 returns-2 : tie.Need-returns-2
-returns-2 c = writes-height _ _ _ _ _ _ (c .before .before .before .before .before .before .before .before .build .ensures) (c .before .before .before .before .before .before .before .before .before .before .before .before .before .before .pre) _ _ (c .before .before .before .before .before .if1 .left) (c .before .before .write-by-height .ensures)
+returns-2 c = writes-height _ _ _ _ _ _ (c .before .before .before .before .before .before .before .before .build .ensures) (c .before .before .before .before .before .before .before .before .before .before .before .before .before .before .pre) _ _ (λ e. let t = c .before .before .before .before .before .if1 .left in omega arith) (c .before .before .write-by-height .ensures)
 
 pub write-list-spec : {M : Type 1} → statement M
 write-list-spec =

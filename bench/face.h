@@ -1,0 +1,23 @@
+// Document 01's checks of the list call in C, for the programs that are measured beside the Rattle code.
+#ifndef FACE_H
+#define FACE_H
+
+#include <stddef.h>
+#include <stdint.h>
+
+enum { GAUGE = 1, BESIDE = 2, JOIN_STACKED = 3 };
+
+typedef struct {
+    const uint8_t *bytes;
+    size_t length;
+} bytes;
+
+typedef struct {
+    uint32_t *words;
+    size_t length;
+} words;
+
+// Checks 1 to 15, 17 and 18: the number of the first that fails, or 0.
+unsigned face_number(bytes file, bytes levels, words arena, words scratch, words output);
+
+#endif

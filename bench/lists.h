@@ -1,0 +1,11 @@
+// The list call in C twice: with lazy lists, as the Rattle code has it, and with plain arrays.
+#ifndef LISTS_H
+#define LISTS_H
+
+#include "face.h"
+
+// Each makes the checks, fills the output and returns the number of items, or 0 where a check fails.
+size_t lazy_list(bytes file, bytes levels, words arena, words scratch, words output);
+size_t plain_list(bytes file, bytes levels, words arena, words scratch, words output);
+
+#endif
