@@ -11,7 +11,9 @@ use Rattle.slicing.specs.Item.{Item, size}
 use Rattle.arena.specs.Arena.{level, mWord}
 use Rattle.arena.specs.Chain.{All, Away, trues, Same}
 use Rattle.arena.specs.Building.{Built, Cleared}
-use Rattle.arena.specs.Loading.{field, sizesIn, numbers, loaded1, Loadable, Loaded}
+use Rattle.facefile.specs.Format.{field}
+use Rattle.facefile.specs.Sizes.{sizesIn}
+use Rattle.arena.specs.Loading.{numbers, loaded1, Loadable, Loaded}
 use Rattle.arena.proofs.PutLaws.{same-refl, same-trans}
 use Rattle.arena.proofs.Frames.{all-map, map-same, all-outside}
 use Rattle.arena.proofs.Written.{Loaded1, loaded-one}

@@ -2,20 +2,12 @@
 use mathlib.Core.Path.{_≡_}
 use mathlib.Core.List.{List, [], _∷_, map}
 use Prim.Native.Nat.{ℕ, zero, suc, _+_, _*_, _≤_, _<_}
-use lib.ListN.{length, getD, drop}
-use Rattle.slicing.specs.Item.{Item, size}
+use lib.ListN.{length, getD}
+use Rattle.slicing.specs.Item.{Item}
+use Rattle.facefile.specs.Sizes.{sizesIn}
 use Rattle.arena.specs.Arena.{stride, level, mWord}
 use Rattle.arena.specs.Chain.{Has, put, Away, trues, Same}
 use Rattle.arena.specs.Building.{hooked, Built}
-
--- The 16-bit field at a place of the bytes, the high byte first.
-abbrev pub field : List ℕ → ℕ → ℕ
-field bytes at = 256 * getD bytes at 0 + getD bytes (at + 1) 0
-
--- The first n sizes of the bytes, four bytes a size: a height and a width.
-unfoldable pub sizesIn : ℕ → List ℕ → List Item
-sizesIn zero bytes = []
-sizesIn (suc n) bytes = size (field bytes 0) (field bytes 2) ∷ sizesIn n (drop 4 bytes)
 
 -- The n numbers from r on.
 unfoldable pub numbers : ℕ → ℕ → List ℕ

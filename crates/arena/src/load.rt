@@ -3,24 +3,17 @@ ghost use mathlib.Core.Path.{_≡_};
 ghost use Prim.Native.Nat.{_+_, _≤_, _<_};
 ghost use lib.ListN.{length};
 ghost use Rattle.arena.specs.Building.{Hookable};
-ghost use Rattle.arena.specs.Loading.{field, loaded1, Loadable, Loaded};
+ghost use Rattle.arena.specs.Loading.{loaded1, Loadable, Loaded};
 use crate::empty::clear_head;
 use crate::prepend::prepend;
 use crate::words::store;
+use facefile::field::field;
 
 // A byte as a word.
 fn word_of(x: u8) -> u32
     ensures { λ r. ⌜ (r ≡ x) × (r < 256) ⌝ }
 {
     x as u32
-}
-
-// The 16-bit field at a place, the high byte first.
-fn field(bytes: &[u8], at: usize) -> u32
-    requires { ⌜ at + 2 ≤ length (now bytes) ⌝ }
-    ensures { λ r. ⌜ (r ≡ field (now (bytes .entry)) at) × (r < 65536) ⌝ }
-{
-    256 * word_of(bytes[at]) + word_of(bytes[at + 1])
 }
 
 // Fills record r and puts it before the list of a head.

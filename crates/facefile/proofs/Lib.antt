@@ -15,3 +15,4 @@ pub mod Written
 pub mod Example
 pub mod PartArray
 pub mod Across
+pub mod SizesIn

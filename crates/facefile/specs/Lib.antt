@@ -4,3 +4,4 @@ pub mod Summary
 pub mod Tracking
 pub mod Finding
 pub mod Kinds
+pub mod Sizes

@@ -1,6 +1,6 @@
 // The face file of document 01: checks 1 to 13, what is counted in a taken file, and the size bytes of a gauge.
 mod entry;
-mod field;
+pub mod field;
 mod gauge;
 mod kinds;
 mod reader;

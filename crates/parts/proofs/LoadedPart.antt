@@ -1,5 +1,5 @@
 -- A gauge that was loaded is a part: its sizes, in the records from its first size's number on, each with its lent level.
--- The file's sizes there are those that the reader took, and the loaded list has no adjusts, so that every p is the true one.
+-- The loaded list has no adjusts, so that every p is the true one.
 use mathlib.Core.Path.{_≡_, refl, sym, ap, ap₂, subst, _∙_}
 use mathlib.Core.List.{List, [], _∷_, map}
 use Prim.Native.Nat.{ℕ, zero, suc, _+_, _*_, _-_, _≤_, _<_}
@@ -7,55 +7,19 @@ use native.Mathlib.Numerals.{add-one}
 use native.Mathlib.Omega.{arith}
 use lib.ListN.{length, getD, take, drop}
 use lib.Seq.{getD-take, getD-drop, length-take-le}
-use Rattle.checks.specs.Check.{Limits, Order}
-use Rattle.checks.specs.Answer.{taken}
-use Rattle.checks.proofs.Answers.{same-taken, ask-taken, next-taken}
 use Rattle.slicing.specs.Item.{Item, size}
 use Rattle.slicing.specs.Tree.{gauge}
 use Rattle.slicing.specs.Recorded.{Recorded, numbered, partRecorded}
-use Rattle.facefile.specs.Format.{sizeAt, limited, ordered, sizesAfter, sizesFrom}
+use Rattle.facefile.specs.Sizes.{sizesIn}
+use Rattle.facefile.proofs.SizesIn.{in-length}
 use Rattle.arena.specs.Arena.{level, mWord, adjust}
 use Rattle.arena.specs.Lazy.{held}
 use Rattle.arena.specs.Chain.{All, trues}
-use Rattle.arena.specs.Loading.{sizesIn, numbers, Loaded}
+use Rattle.arena.specs.Loading.{numbers, Loaded}
 use Rattle.arena.proofs.Frames.{all-map}
 use Rattle.merging.specs.Carried.{paired, carried}
 use Rattle.merging.proofs.HeldLaws.{held-carried, carried-sums}
 use Rattle.parts.specs.Part.{Part}
-
--- The sizes that the reader took are those at their places.
-after-in : (y : Item) (k : ℕ) (bytes : List ℕ) (z : List Item) → sizesAfter y k bytes ≡ taken z → z ≡ sizesIn k bytes
-unfolding sizesAfter sizesIn
-after-in y zero bytes z e = sym (same-taken [] z e)
-after-in y (suc k) bytes z e =
-    let limits = ask-taken (limited (sizeAt bytes)) Limits _ z e in
-    let order = ask-taken (ordered y (sizeAt bytes)) Order _ z (limits .1) in
-    let rest = next-taken (sizesAfter (sizeAt bytes) k (drop 4 bytes)) (λ zs. taken (sizeAt bytes ∷ zs)) z (order .1) in
-    sym (same-taken (sizeAt bytes ∷ rest .0) z (rest .2))
-    ∙ ap (λ (l : List Item). sizeAt bytes ∷ l) (after-in (sizeAt bytes) k (drop 4 bytes) (rest .0) (rest .1))
-
-pub from-in : (k : ℕ) (bytes : List ℕ) (z : List Item) → sizesFrom k bytes ≡ taken z → z ≡ sizesIn k bytes
-unfolding sizesFrom sizesIn
-from-in zero bytes z e = sym (same-taken [] z e)
-from-in (suc k) bytes z e =
-    let limits = ask-taken (limited (sizeAt bytes)) Limits _ z e in
-    let rest = next-taken (sizesAfter (sizeAt bytes) k (drop 4 bytes)) (λ zs. taken (sizeAt bytes ∷ zs)) z (limits .1) in
-    sym (same-taken (sizeAt bytes ∷ rest .0) z (rest .2))
-    ∙ ap (λ (l : List Item). sizeAt bytes ∷ l) (after-in (sizeAt bytes) k (drop 4 bytes) (rest .0) (rest .1))
-
--- The sizes hang on their own bytes alone.
-pub in-same : (k : ℕ) (x y : List ℕ) → ((i : ℕ) → i < 4 * k → getD x i 0 ≡ getD y i 0) → sizesIn k x ≡ sizesIn k y
-unfolding sizesIn
-in-same zero x y same = refl
-in-same (suc k) x y same =
-    ap₂ _∷_
-    (ap₂ size (ap₂ (λ (u v : ℕ). 256 * u + v) (same 0 (omega arith)) (same 1 (omega arith))) (ap₂ (λ (u v : ℕ). 256 * u + v) (same 2 (omega arith)) (same 3 (omega arith))))
-    (in-same k (drop 4 x) (drop 4 y) (λ i less. getD-drop 4 x i 0 ∙ same (4 + i) (omega arith) ∙ sym (getD-drop 4 y i 0)))
-
-pub in-length : (k : ℕ) (x : List ℕ) → length (sizesIn k x) ≡ k
-unfolding sizesIn
-in-length zero x = refl
-in-length (suc k) x = ap suc (in-length k (drop 4 x))
 
 paired-numbered : (b : List ℕ) (r n : ℕ) (z : List Item) → length z ≡ n → map (mWord b) (numbers r n) ≡ map (λ (x : Item). x .m) z → paired b (numbers r n) (map (λ (x : Item). x .p) z) ≡ numbered r z
 unfolding numbers

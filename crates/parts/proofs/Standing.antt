@@ -24,7 +24,9 @@ use Rattle.facefile.proofs.Stacks.{reads-flat, sizes-join}
 use Rattle.facefile.proofs.PartArray.{Held, held-push, push-held, stack-few}
 use Rattle.facefile.proofs.Walk.{Walk, walk-start, walk-end, GaugeTurn, gauge-turn, JoinTurn, join-turn}
 use Rattle.arena.specs.Chain.{Has, Away, Same}
-use Rattle.arena.specs.Loading.{sizesIn, numbers, Loadable, Loaded}
+use Rattle.arena.specs.Loading.{numbers, Loadable, Loaded}
+use Rattle.facefile.specs.Sizes.{sizesIn}
+use Rattle.facefile.proofs.SizesIn.{from-in, in-same, in-length}
 use Rattle.parts.specs.Part.{headOf, Part, Suits, Parts}
 use Rattle.parts.specs.Copying.{Copied}
 use Rattle.parts.specs.Joining.{turnedIf, Ranged, Joinable, Joined}
@@ -32,7 +34,7 @@ use Rattle.facefile.specs.Kinds.{kindOf, across}
 use Rattle.parts.specs.Building.{Buildable, Whole}
 use Rattle.parts.proofs.PartLaws.{away-out, part-copied}
 use Rattle.parts.proofs.PartStack.{parts-some, parts-total, parts-frame}
-use Rattle.parts.proofs.LoadedPart.{from-in, in-same, in-length, numbers-inside, loaded-part}
+use Rattle.parts.proofs.LoadedPart.{numbers-inside, loaded-part}
 use Rattle.parts.proofs.FacingLists.{faces-suit, cut-part, cut-sizes, cut-kind}
 
 pub record Standing (file levels a₀ a kinds : List ℕ) (at parts done : ℕ) : Type 0 where

@@ -12,6 +12,7 @@ use Rattle.slicing.specs.Item.{Item}
 use Rattle.slicing.specs.Tree.{Tree, gauge, beside, stacked, gaugeCount, sizeCount}
 use Rattle.slicing.specs.Good.{Ordered, Good}
 use Rattle.slicing.specs.Merge.{sum}
+use Rattle.slicing.specs.Shapes.{shapes}
 use Rattle.slicing.specs.Choice.{Choice, extent}
 use Rattle.slicing.specs.Recorded.{Recorded, items, numbered, mergeRecorded, swapRecorded, turnRecorded, shapesRecorded, partRecorded}
 use Rattle.slicing.proofs.Counts.{gauges-joined, sizes-joined}
@@ -90,12 +91,14 @@ extent-low (stacked a b) h c =
     let y = extent-low b (h .1) (c .1) in
     (omega (arith, gauges-joined a b), omega (arith, gauges-joined a b))
 
+pub shapes-low : (t : Tree) → Good t → (z : Item) → List·Memᴰ z (shapes 0 t) → (z .m ≤ 1_000 * gaugeCount t) × (z .p ≤ 1_000 * gaugeCount t)
+shapes-low t h z i =
+    let chosen = shapes-chosen 0 t z h i in subst (Low (gaugeCount t)) (chosen .same) (extent-low t h (chosen .choice))
+
 pub recorded-low : (r : ℕ) (t : Tree) → Good t → (x : Recorded) → List·Memᴰ x (shapesRecorded 0 r t) → (x .item .m ≤ 1_000 * gaugeCount t) × (x .item .p ≤ 1_000 * gaugeCount t)
 recorded-low r t h x i =
-    let chosen =
-    shapes-chosen 0 t (x .item) h
-    (subst (λ (l : List Item). List·Memᴰ (x .item) l) (items-shapes 0 r t) (Memᴰ·map (λ (y : Recorded). y .item) i)) in
-    subst (Low (gaugeCount t)) (chosen .same) (extent-low t h (chosen .choice))
+    shapes-low t h (x .item)
+    (subst (λ (l : List Item). List·Memᴰ (x .item) l) (items-shapes 0 r t) (Memᴰ·map (λ (y : Recorded). y .item) i))
 
 pub turned-low : (r : ℕ) (t : Tree) → Good t → (x : Recorded) → List·Memᴰ x (turnRecorded (shapesRecorded 0 r t)) → (x .item .m ≤ 1_000 * gaugeCount t) × (x .item .p ≤ 1_000 * gaugeCount t)
 turned-low r t h x i =

@@ -1,0 +1,10 @@
+pub mod PickLaws
+pub mod FacingLaws
+pub mod Looking
+pub mod OrderLaws
+pub mod Searching
+pub mod PartLists
+pub mod TakeLaws
+pub mod ShapeReading
+pub mod JoinLaws
+pub mod LayLaws

@@ -1,0 +1,503 @@
+-- `fit::lay::lay` meets its contract.
+-- The measure is the number of gauges, which each part has fewer of. A gauge's words are written at once; at a join each part takes its item and lays itself out, the newer in the stretch after the older's words.
+use borrow.Author.Needs.{needs}
+use Rattle.fit.proofs.LayLaws.{layable-inside, layable-item, gauge-room, gauge-laid, join-some, newer-inside, counts, older-takes, newer-takes, right-fits, above-fits, lay-older, lay-newer, join-laid}
+use Prim.Native.Nat.{ℕ, _<_}
+use borrow.Fn.Kinds.{In}
+use borrow.Fn.PlainCycle.{Measures, is, falls, and}
+use Rattle.fit.proofs.lay.lay.Reads as lay
+use Rattle.fit.proofs.lay.lay.Kinds as lay-kinds
+use Rattle.fit.proofs.lay.+lay.Lts-lay as lay-lts
+use Rattle.fit.proofs.lay.along.Reads as along-reads
+use Rattle.fit.proofs.lay.item_at.Reads as item-at-reads
+use Rattle.fit.proofs.lay.moved.Reads as moved-reads
+use Rattle.fit.proofs.lay.write_gauge.Reads as write-gauge-reads
+use Rattle.stored.proofs.table.part_word.Reads as part-word-reads
+use Rattle.fit.proofs.take.take_item.Reads as take-item-reads
+use Rattle.fit.proofs.lay.+lay.{statement}
+use Rattle.fit.proofs.lay.+lay.Tie.{close}
+
+abbrev μ-lay : Measures 2 lay-kinds.ps ℕ
+μ-lay κs a = a .1 .1 .0
+
+abbrev lay-at : ℕ → In 2 lay-kinds.ps
+lay-at t = and 2 lay-kinds.ps (is 2 lay-kinds.ps μ-lay t) lay.Pre
+
+abbrev lay-below : ℕ → In 2 lay-kinds.ps
+lay-below t = and 2 lay-kinds.ps (falls 2 lay-kinds.ps _<_ μ-lay t) lay.Pre
+
+lay-part-word-requires : (t : ℕ) → lay-lts.Need-part-word-requires (
+  part-word-reads.Asked,
+  part-word-reads.Learnt,
+  item-at-reads.Asked,
+  item-at-reads.Learnt,
+  write-gauge-reads.Asked,
+  write-gauge-reads.Learnt,
+  along-reads.Asked,
+  along-reads.Learnt,
+  take-item-reads.Asked,
+  take-item-reads.Learnt,
+  moved-reads.Asked,
+  moved-reads.Learnt,
+  lay-below t,
+  lay.Post,
+) (lay-at t) lay.Post
+lay-part-word-requires t c κs = let inside = layable-inside _ _ _ _ _ _ (c .before .before .args .out .now) (c .before .before .pre .1) in search needs
+
+lay-item-at-requires : (t : ℕ) → lay-lts.Need-item-at-requires (
+  part-word-reads.Asked,
+  part-word-reads.Learnt,
+  item-at-reads.Asked,
+  item-at-reads.Learnt,
+  write-gauge-reads.Asked,
+  write-gauge-reads.Learnt,
+  along-reads.Asked,
+  along-reads.Learnt,
+  take-item-reads.Asked,
+  take-item-reads.Learnt,
+  moved-reads.Asked,
+  moved-reads.Learnt,
+  lay-below t,
+  lay.Post,
+) (lay-at t) lay.Post
+lay-item-at-requires t c κs = layable-item _ _ _ _ _ _ (c .before .before .before .args .out .now) (c .before .before .before .pre .1)
+
+lay-write-gauge-requires : (t : ℕ) → lay-lts.Need-write-gauge-requires (
+  part-word-reads.Asked,
+  part-word-reads.Learnt,
+  item-at-reads.Asked,
+  item-at-reads.Learnt,
+  write-gauge-reads.Asked,
+  write-gauge-reads.Learnt,
+  along-reads.Asked,
+  along-reads.Learnt,
+  take-item-reads.Asked,
+  take-item-reads.Learnt,
+  moved-reads.Asked,
+  moved-reads.Learnt,
+  lay-below t,
+  lay.Post,
+) (lay-at t) lay.Post
+lay-write-gauge-requires t c κs = gauge-room _ _ _ _ _ _ (c .before .before .before .before .before .before .args .out .now) _ (c .before .before .before .before .before .before .pre .1) (c .before .before .before .part-word .ensures) (c .before .if1 .taken)
+
+lay-same-length : (t : ℕ) → lay-lts.Need-same-length (
+  part-word-reads.Asked,
+  part-word-reads.Learnt,
+  item-at-reads.Asked,
+  item-at-reads.Learnt,
+  write-gauge-reads.Asked,
+  write-gauge-reads.Learnt,
+  along-reads.Asked,
+  along-reads.Learnt,
+  take-item-reads.Asked,
+  take-item-reads.Learnt,
+  moved-reads.Asked,
+  moved-reads.Learnt,
+  lay-below t,
+  lay.Post,
+) (lay-at t) lay.Post
+lay-same-length t c = search needs
+
+lay-returns : (t : ℕ) → lay-lts.Need-returns (
+  part-word-reads.Asked,
+  part-word-reads.Learnt,
+  item-at-reads.Asked,
+  item-at-reads.Learnt,
+  write-gauge-reads.Asked,
+  write-gauge-reads.Learnt,
+  along-reads.Asked,
+  along-reads.Learnt,
+  take-item-reads.Asked,
+  take-item-reads.Learnt,
+  moved-reads.Asked,
+  moved-reads.Learnt,
+  lay-below t,
+  lay.Post,
+) (lay-at t) lay.Post
+lay-returns t c = gauge-laid _ _ _ _ _ _ (c .before .before .before .before .before .before .before .before .before .args .out .now) _ _ _ (c .before .before .before .before .before .before .part-word .ensures) (c .before .before .before .before .if1 .taken) (c .before .before .before .before .before .item-at .ensures) (c .before .before .write-gauge .ensures)
+
+lay-along-requires : (t : ℕ) → lay-lts.Need-along-requires (
+  part-word-reads.Asked,
+  part-word-reads.Learnt,
+  item-at-reads.Asked,
+  item-at-reads.Learnt,
+  write-gauge-reads.Asked,
+  write-gauge-reads.Learnt,
+  along-reads.Asked,
+  along-reads.Learnt,
+  take-item-reads.Asked,
+  take-item-reads.Learnt,
+  moved-reads.Asked,
+  moved-reads.Learnt,
+  lay-below t,
+  lay.Post,
+) (lay-at t) lay.Post
+lay-along-requires t c κs = search needs
+
+lay-sub-newer : (t : ℕ) → lay-lts.Need-sub-newer (
+  part-word-reads.Asked,
+  part-word-reads.Learnt,
+  item-at-reads.Asked,
+  item-at-reads.Learnt,
+  write-gauge-reads.Asked,
+  write-gauge-reads.Learnt,
+  along-reads.Asked,
+  along-reads.Learnt,
+  take-item-reads.Asked,
+  take-item-reads.Learnt,
+  moved-reads.Asked,
+  moved-reads.Learnt,
+  lay-below t,
+  lay.Post,
+) (lay-at t) lay.Post
+lay-sub-newer t c = join-some _ _ _ _ _ _ (c .before .before .before .before .before .before .args .out .now) _ (c .before .before .before .part-word .ensures) (c .before .if1 .left) (c .before .before .before .before .before .before .pre .1)
+
+lay-part-word-requires-2 : (t : ℕ) → lay-lts.Need-part-word-requires-2 (
+  part-word-reads.Asked,
+  part-word-reads.Learnt,
+  item-at-reads.Asked,
+  item-at-reads.Learnt,
+  write-gauge-reads.Asked,
+  write-gauge-reads.Learnt,
+  along-reads.Asked,
+  along-reads.Learnt,
+  take-item-reads.Asked,
+  take-item-reads.Learnt,
+  moved-reads.Asked,
+  moved-reads.Learnt,
+  lay-below t,
+  lay.Post,
+) (lay-at t) lay.Post
+lay-part-word-requires-2 t c κs = let inside = newer-inside _ _ _ _ _ _ (c .before .before .before .before .before .before .args .out .now) _ (c .before .before .before .part-word .ensures) (c .before .if1 .left) (c .before .before .before .before .before .before .pre .1) in search needs
+
+lay-mul-older : (t : ℕ) → lay-lts.Need-mul-older (
+  part-word-reads.Asked,
+  part-word-reads.Learnt,
+  item-at-reads.Asked,
+  item-at-reads.Learnt,
+  write-gauge-reads.Asked,
+  write-gauge-reads.Learnt,
+  along-reads.Asked,
+  along-reads.Learnt,
+  take-item-reads.Asked,
+  take-item-reads.Learnt,
+  moved-reads.Asked,
+  moved-reads.Learnt,
+  lay-below t,
+  lay.Post,
+) (lay-at t) lay.Post
+lay-mul-older t c = let n = counts _ _ _ _ _ _ (c .before .before .before .before .before .before .before .args .out .now) _ (c .before .before .before .before .part-word .ensures) (c .before .before .if1 .left) _ (c .part-word2 .ensures) (c .before .before .before .before .before .before .before .pre .1) in search needs
+
+lay-sub-older : (t : ℕ) → lay-lts.Need-sub-older (
+  part-word-reads.Asked,
+  part-word-reads.Learnt,
+  item-at-reads.Asked,
+  item-at-reads.Learnt,
+  write-gauge-reads.Asked,
+  write-gauge-reads.Learnt,
+  along-reads.Asked,
+  along-reads.Learnt,
+  take-item-reads.Asked,
+  take-item-reads.Learnt,
+  moved-reads.Asked,
+  moved-reads.Learnt,
+  lay-below t,
+  lay.Post,
+) (lay-at t) lay.Post
+lay-sub-older t c = let n = counts _ _ _ _ _ _ (c .before .before .before .before .before .before .before .args .out .now) _ (c .before .before .before .before .part-word .ensures) (c .before .before .if1 .left) _ (c .part-word2 .ensures) (c .before .before .before .before .before .before .before .pre .1) in search needs
+
+lay-sub-first : (t : ℕ) → lay-lts.Need-sub-first (
+  part-word-reads.Asked,
+  part-word-reads.Learnt,
+  item-at-reads.Asked,
+  item-at-reads.Learnt,
+  write-gauge-reads.Asked,
+  write-gauge-reads.Learnt,
+  along-reads.Asked,
+  along-reads.Learnt,
+  take-item-reads.Asked,
+  take-item-reads.Learnt,
+  moved-reads.Asked,
+  moved-reads.Learnt,
+  lay-below t,
+  lay.Post,
+) (lay-at t) lay.Post
+lay-sub-first t c = let n = counts _ _ _ _ _ _ (c .before .before .before .before .before .before .before .args .out .now) _ (c .before .before .before .before .part-word .ensures) (c .before .before .if1 .left) _ (c .part-word2 .ensures) (c .before .before .before .before .before .before .before .pre .1) in search needs
+
+lay-take-item-requires : (t : ℕ) → lay-lts.Need-take-item-requires (
+  part-word-reads.Asked,
+  part-word-reads.Learnt,
+  item-at-reads.Asked,
+  item-at-reads.Learnt,
+  write-gauge-reads.Asked,
+  write-gauge-reads.Learnt,
+  along-reads.Asked,
+  along-reads.Learnt,
+  take-item-reads.Asked,
+  take-item-reads.Learnt,
+  moved-reads.Asked,
+  moved-reads.Learnt,
+  lay-below t,
+  lay.Post,
+) (lay-at t) lay.Post
+lay-take-item-requires t c κs = older-takes _ _ _ _ _ _ (c .before .before .before .before .before .before .before .args .out .now) _ (c .before .before .before .before .part-word .ensures) (c .before .before .if1 .left) _ (c .part-word2 .ensures) _ _ (c .before .before .before .item-at .ensures) (c .before .along .ensures) (c .before .before .before .before .before .before .before .pre .1)
+
+lay-take-item-requires-2 : (t : ℕ) → lay-lts.Need-take-item-requires-2 (
+  part-word-reads.Asked,
+  part-word-reads.Learnt,
+  item-at-reads.Asked,
+  item-at-reads.Learnt,
+  write-gauge-reads.Asked,
+  write-gauge-reads.Learnt,
+  along-reads.Asked,
+  along-reads.Learnt,
+  take-item-reads.Asked,
+  take-item-reads.Learnt,
+  moved-reads.Asked,
+  moved-reads.Learnt,
+  lay-below t,
+  lay.Post,
+) (lay-at t) lay.Post
+lay-take-item-requires-2 t c κs = newer-takes _ _ _ _ _ _ (c .before .before .before .before .before .before .before .before .args .out .now) _ (c .before .before .before .before .before .part-word .ensures) (c .before .before .before .if1 .left) _ (c .before .part-word2 .ensures) _ _ (c .before .before .before .before .item-at .ensures) (c .before .before .along .ensures) (c .before .before .before .before .before .before .before .before .pre .1)
+
+lay-moved-requires : (t : ℕ) → lay-lts.Need-moved-requires (
+  part-word-reads.Asked,
+  part-word-reads.Learnt,
+  item-at-reads.Asked,
+  item-at-reads.Learnt,
+  write-gauge-reads.Asked,
+  write-gauge-reads.Learnt,
+  along-reads.Asked,
+  along-reads.Learnt,
+  take-item-reads.Asked,
+  take-item-reads.Learnt,
+  moved-reads.Asked,
+  moved-reads.Learnt,
+  lay-below t,
+  lay.Post,
+) (lay-at t) lay.Post
+lay-moved-requires t c κs = right-fits _ _ _ _ _ _ (c .before .before .before .before .before .before .before .before .before .args .out .now) _ (c .before .before .before .before .before .before .part-word .ensures) (c .before .before .before .before .if1 .left) _ (c .before .before .part-word2 .ensures) _ _ (c .before .before .before .before .before .item-at .ensures) (c .before .before .before .along .ensures) _ _ _ _ (c .before .take-item .ensures) (c .take-item2 .ensures) (c .before .before .before .before .before .before .before .before .before .pre .1)
+
+lay-moved-requires-2 : (t : ℕ) → lay-lts.Need-moved-requires-2 (
+  part-word-reads.Asked,
+  part-word-reads.Learnt,
+  item-at-reads.Asked,
+  item-at-reads.Learnt,
+  write-gauge-reads.Asked,
+  write-gauge-reads.Learnt,
+  along-reads.Asked,
+  along-reads.Learnt,
+  take-item-reads.Asked,
+  take-item-reads.Learnt,
+  moved-reads.Asked,
+  moved-reads.Learnt,
+  lay-below t,
+  lay.Post,
+) (lay-at t) lay.Post
+lay-moved-requires-2 t c κs = above-fits _ _ _ _ _ _ (c .before .before .before .before .before .before .before .before .before .before .args .out .now) _ (c .before .before .before .before .before .before .before .part-word .ensures) (c .before .before .before .before .before .if1 .left) _ (c .before .before .before .part-word2 .ensures) _ _ (c .before .before .before .before .before .before .item-at .ensures) (c .before .before .before .before .along .ensures) _ _ _ _ (c .before .before .take-item .ensures) (c .before .take-item2 .ensures) (c .before .before .before .before .before .before .before .before .before .before .pre .1)
+
+lay-lay-requires : (t : ℕ) → lay-lts.Need-lay-requires (
+  part-word-reads.Asked,
+  part-word-reads.Learnt,
+  item-at-reads.Asked,
+  item-at-reads.Learnt,
+  write-gauge-reads.Asked,
+  write-gauge-reads.Learnt,
+  along-reads.Asked,
+  along-reads.Learnt,
+  take-item-reads.Asked,
+  take-item-reads.Learnt,
+  moved-reads.Asked,
+  moved-reads.Learnt,
+  lay-below t,
+  lay.Post,
+) (lay-at t) lay.Post
+lay-lay-requires t c κs = lay-older _ _ _ _ _ _ (c .before .before .before .before .before .before .before .before .before .before .before .before .args .out .now) _ (c .before .before .before .before .before .before .before .before .before .part-word .ensures) (c .before .before .before .before .before .before .before .if1 .left) _ (c .before .before .before .before .before .part-word2 .ensures) _ _ (c .before .before .before .before .before .before .before .before .item-at .ensures) (c .before .before .before .before .before .before .along .ensures) _ _ _ _ (c .before .before .before .before .take-item .ensures) (c .before .before .before .take-item2 .ensures) _ (c .before .before .before .before .before .before .before .before .before .before .before .before .pre .0) (c .before .before .before .before .before .before .before .before .before .before .before .before .pre .1)
+
+lay-mul-lay : (t : ℕ) → lay-lts.Need-mul-lay (
+  part-word-reads.Asked,
+  part-word-reads.Learnt,
+  item-at-reads.Asked,
+  item-at-reads.Learnt,
+  write-gauge-reads.Asked,
+  write-gauge-reads.Learnt,
+  along-reads.Asked,
+  along-reads.Learnt,
+  take-item-reads.Asked,
+  take-item-reads.Learnt,
+  moved-reads.Asked,
+  moved-reads.Learnt,
+  lay-below t,
+  lay.Post,
+) (lay-at t) lay.Post
+lay-mul-lay t c = let n = counts _ _ _ _ _ _ (c .before .before .before .before .before .before .before .before .before .before .before .before .before .before .before .args .out .now) _ (c .before .before .before .before .before .before .before .before .before .before .before .before .part-word .ensures) (c .before .before .before .before .before .before .before .before .before .before .if1 .left) _ (c .before .before .before .before .before .before .before .before .part-word2 .ensures) (c .before .before .before .before .before .before .before .before .before .before .before .before .before .before .before .pre .1) in search needs
+
+lay-mul-lay-2 : (t : ℕ) → lay-lts.Need-mul-lay-2 (
+  part-word-reads.Asked,
+  part-word-reads.Learnt,
+  item-at-reads.Asked,
+  item-at-reads.Learnt,
+  write-gauge-reads.Asked,
+  write-gauge-reads.Learnt,
+  along-reads.Asked,
+  along-reads.Learnt,
+  take-item-reads.Asked,
+  take-item-reads.Learnt,
+  moved-reads.Asked,
+  moved-reads.Learnt,
+  lay-below t,
+  lay.Post,
+) (lay-at t) lay.Post
+lay-mul-lay-2 t c = let n = counts _ _ _ _ _ _ (c .before .before .before .before .before .before .before .before .before .before .before .before .before .before .before .args .out .now) _ (c .before .before .before .before .before .before .before .before .before .before .before .before .part-word .ensures) (c .before .before .before .before .before .before .before .before .before .before .if1 .left) _ (c .before .before .before .before .before .before .before .before .part-word2 .ensures) (c .before .before .before .before .before .before .before .before .before .before .before .before .before .before .before .pre .1) in search needs
+
+lay-sub-lay : (t : ℕ) → lay-lts.Need-sub-lay (
+  part-word-reads.Asked,
+  part-word-reads.Learnt,
+  item-at-reads.Asked,
+  item-at-reads.Learnt,
+  write-gauge-reads.Asked,
+  write-gauge-reads.Learnt,
+  along-reads.Asked,
+  along-reads.Learnt,
+  take-item-reads.Asked,
+  take-item-reads.Learnt,
+  moved-reads.Asked,
+  moved-reads.Learnt,
+  lay-below t,
+  lay.Post,
+) (lay-at t) lay.Post
+lay-sub-lay t c = let n = counts _ _ _ _ _ _ (c .before .before .before .before .before .before .before .before .before .before .before .before .before .before .before .args .out .now) _ (c .before .before .before .before .before .before .before .before .before .before .before .before .part-word .ensures) (c .before .before .before .before .before .before .before .before .before .before .if1 .left) _ (c .before .before .before .before .before .before .before .before .part-word2 .ensures) (c .before .before .before .before .before .before .before .before .before .before .before .before .before .before .before .pre .1) in search needs
+
+lay-part-lay-start : (t : ℕ) → lay-lts.Need-part-lay-start (
+  part-word-reads.Asked,
+  part-word-reads.Learnt,
+  item-at-reads.Asked,
+  item-at-reads.Learnt,
+  write-gauge-reads.Asked,
+  write-gauge-reads.Learnt,
+  along-reads.Asked,
+  along-reads.Learnt,
+  take-item-reads.Asked,
+  take-item-reads.Learnt,
+  moved-reads.Asked,
+  moved-reads.Learnt,
+  lay-below t,
+  lay.Post,
+) (lay-at t) lay.Post
+lay-part-lay-start t c = let n = counts _ _ _ _ _ _ (c .before .before .before .before .before .before .before .before .before .before .before .before .before .before .before .args .out .now) _ (c .before .before .before .before .before .before .before .before .before .before .before .before .part-word .ensures) (c .before .before .before .before .before .before .before .before .before .before .if1 .left) _ (c .before .before .before .before .before .before .before .before .part-word2 .ensures) (c .before .before .before .before .before .before .before .before .before .before .before .before .before .before .before .pre .1) in search needs
+
+lay-part-lay-end : (t : ℕ) → lay-lts.Need-part-lay-end (
+  part-word-reads.Asked,
+  part-word-reads.Learnt,
+  item-at-reads.Asked,
+  item-at-reads.Learnt,
+  write-gauge-reads.Asked,
+  write-gauge-reads.Learnt,
+  along-reads.Asked,
+  along-reads.Learnt,
+  take-item-reads.Asked,
+  take-item-reads.Learnt,
+  moved-reads.Asked,
+  moved-reads.Learnt,
+  lay-below t,
+  lay.Post,
+) (lay-at t) lay.Post
+lay-part-lay-end t c = let n = counts _ _ _ _ _ _ (c .before .before .before .before .before .before .before .before .before .before .before .before .before .before .before .args .out .now) _ (c .before .before .before .before .before .before .before .before .before .before .before .before .part-word .ensures) (c .before .before .before .before .before .before .before .before .before .before .if1 .left) _ (c .before .before .before .before .before .before .before .before .part-word2 .ensures) (c .before .before .before .before .before .before .before .before .before .before .before .before .before .before .before .pre .1) in search needs
+
+lay-lay-requires-2 : (t : ℕ) → lay-lts.Need-lay-requires-2 (
+  part-word-reads.Asked,
+  part-word-reads.Learnt,
+  item-at-reads.Asked,
+  item-at-reads.Learnt,
+  write-gauge-reads.Asked,
+  write-gauge-reads.Learnt,
+  along-reads.Asked,
+  along-reads.Learnt,
+  take-item-reads.Asked,
+  take-item-reads.Learnt,
+  moved-reads.Asked,
+  moved-reads.Learnt,
+  lay-below t,
+  lay.Post,
+) (lay-at t) lay.Post
+lay-lay-requires-2 t c κs = lay-newer _ _ _ _ _ _ (c .before .before .before .before .before .before .before .before .before .before .before .before .before .before .before .before .args .out .now) _ (c .before .before .before .before .before .before .before .before .before .before .before .before .before .part-word .ensures) (c .before .before .before .before .before .before .before .before .before .before .before .if1 .left) _ (c .before .before .before .before .before .before .before .before .before .part-word2 .ensures) _ _ (c .before .before .before .before .before .before .before .before .before .before .before .before .item-at .ensures) (c .before .before .before .before .before .before .before .before .before .before .along .ensures) _ _ _ _ (c .before .before .before .before .before .before .before .before .take-item .ensures) (c .before .before .before .before .before .before .before .take-item2 .ensures) _ _ (c .before .before .before .before .before .before .moved .ensures) (c .before .before .before .before .before .moved2 .ensures) (c .before .before .before .lay .last .1 .1 .1 .1 .1 .1 .0) (c .before .before .before .lay .kept .1 .1 .1 .1 .1 .1 .0) _ (c .before .before .before .before .before .before .before .before .before .before .before .before .before .before .before .before .pre .0) (c .before .before .before .before .before .before .before .before .before .before .before .before .before .before .before .before .pre .1)
+
+lay-same-length-2 : (t : ℕ) → lay-lts.Need-same-length-2 (
+  part-word-reads.Asked,
+  part-word-reads.Learnt,
+  item-at-reads.Asked,
+  item-at-reads.Learnt,
+  write-gauge-reads.Asked,
+  write-gauge-reads.Learnt,
+  along-reads.Asked,
+  along-reads.Learnt,
+  take-item-reads.Asked,
+  take-item-reads.Learnt,
+  moved-reads.Asked,
+  moved-reads.Learnt,
+  lay-below t,
+  lay.Post,
+) (lay-at t) lay.Post
+lay-same-length-2 t c = search needs
+
+lay-returns-2 : (t : ℕ) → lay-lts.Need-returns-2 (
+  part-word-reads.Asked,
+  part-word-reads.Learnt,
+  item-at-reads.Asked,
+  item-at-reads.Learnt,
+  write-gauge-reads.Asked,
+  write-gauge-reads.Learnt,
+  along-reads.Asked,
+  along-reads.Learnt,
+  take-item-reads.Asked,
+  take-item-reads.Learnt,
+  moved-reads.Asked,
+  moved-reads.Learnt,
+  lay-below t,
+  lay.Post,
+) (lay-at t) lay.Post
+lay-returns-2 t c = join-laid _ _ _ _ _ _ (c .before .before .before .before .before .before .before .before .before .before .before .before .before .before .before .before .before .before .before .args .out .now) _ (c .before .before .before .before .before .before .before .before .before .before .before .before .before .before .before .before .part-word .ensures) (c .before .before .before .before .before .before .before .before .before .before .before .before .before .before .if1 .left) _ (c .before .before .before .before .before .before .before .before .before .before .before .before .part-word2 .ensures) _ _ (c .before .before .before .before .before .before .before .before .before .before .before .before .before .before .before .item-at .ensures) (c .before .before .before .before .before .before .before .before .before .before .before .before .before .along .ensures) _ _ _ _ (c .before .before .before .before .before .before .before .before .before .before .before .take-item .ensures) (c .before .before .before .before .before .before .before .before .before .before .take-item2 .ensures) _ _ (c .before .before .before .before .before .before .before .before .before .moved .ensures) (c .before .before .before .before .before .before .before .before .moved2 .ensures) (c .before .before .before .before .before .before .lay .last .1 .1 .1 .1 .1 .1 .0) (c .before .before .before .before .before .before .lay .kept .1 .1 .1 .1 .1 .1 .0) _ (c .before .before .before .before .before .before .lay .ensures) (c .before .before .lay2 .ensures)
+
+pub +lay-spec : {M : Type 1} → statement M
++lay-spec = close μ-lay λ t. lay-lts.spec (
+  part-word-reads.Asked,
+  part-word-reads.Learnt,
+  item-at-reads.Asked,
+  item-at-reads.Learnt,
+  write-gauge-reads.Asked,
+  write-gauge-reads.Learnt,
+  along-reads.Asked,
+  along-reads.Learnt,
+  take-item-reads.Asked,
+  take-item-reads.Learnt,
+  moved-reads.Asked,
+  moved-reads.Learnt,
+  lay-below t,
+  lay.Post,
+)
+    (lay-at t)
+    lay.Post
+    (lay-part-word-requires t)
+    (lay-item-at-requires t)
+    (lay-write-gauge-requires t)
+    (lay-same-length t)
+    (lay-returns t)
+    (lay-along-requires t)
+    (lay-sub-newer t)
+    (lay-part-word-requires-2 t)
+    (lay-mul-older t)
+    (lay-sub-older t)
+    (lay-sub-first t)
+    (lay-take-item-requires t)
+    (lay-take-item-requires-2 t)
+    (lay-moved-requires t)
+    (lay-moved-requires-2 t)
+    (lay-lay-requires t)
+    (lay-mul-lay t)
+    (lay-mul-lay-2 t)
+    (lay-sub-lay t)
+    (lay-part-lay-start t)
+    (lay-part-lay-end t)
+    (lay-lay-requires-2 t)
+    (lay-same-length-2 t)
+    (lay-returns-2 t)

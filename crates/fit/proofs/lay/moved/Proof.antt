@@ -1,0 +1,15 @@
+-- `fit::lay::moved` meets its contract.
+use Rattle.fit.proofs.lay.moved.Statement.{statement}
+use Rattle.fit.proofs.lay.moved.Tie as tie
+
+add-result : tie.Need-add-result
+add-result c = record { fits = rw (c .if1 .taken) at (c .before .pre) }
+
+returns : tie.Need-returns
+returns c = rw (c .if1 .taken)
+
+returns-2 : tie.Need-returns-2
+returns-2 c = rw (c .if1 .left)
+
+pub moved-spec : {M : Type 1} → statement M
+moved-spec = tie.close (tie.spec add-result returns returns-2)

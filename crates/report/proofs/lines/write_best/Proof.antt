@@ -1,0 +1,35 @@
+-- `report::lines::write_best` meets its contract.
+-- The three fields are appended in turn, by `best-line`.
+use borrow.Author.Needs.{needs}
+use Rattle.report.proofs.LineLaws.{best-line}
+use Rattle.report.proofs.lines.write_best.Statement.{statement}
+use Rattle.report.proofs.lines.write_best.Tie as tie
+
+slice-aggregate-write-named : tie.Need-slice-aggregate-write-named
+slice-aggregate-write-named c = search needs
+
+write-named-requires : tie.Need-write-named-requires
+write-named-requires c κs = search needs
+
+write-field-requires : tie.Need-write-field-requires
+write-field-requires c κs = search needs
+
+write-field-requires-2 : tie.Need-write-field-requires-2
+write-field-requires-2 c κs = search needs
+
+same-length : tie.Need-same-length
+same-length c = search needs
+
+returns : tie.Need-returns
+returns c = search (needs, best-line)
+
+pub write-best-spec : {M : Type 1} → statement M
+write-best-spec =
+    tie.close
+    (tie.spec
+    slice-aggregate-write-named
+    write-named-requires
+    write-field-requires
+    write-field-requires-2
+    same-length
+    returns)

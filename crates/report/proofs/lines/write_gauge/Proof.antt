@@ -1,0 +1,47 @@
+-- `report::lines::write_gauge` meets its contract.
+-- The four fields are appended in turn, by `gauge-line`.
+use borrow.Author.Needs.{needs}
+use Rattle.report.proofs.LineLaws.{gauge-line}
+use Rattle.report.proofs.lines.write_gauge.Statement.{statement}
+use Rattle.report.proofs.lines.write_gauge.Tie as tie
+
+slice-aggregate-write-named : tie.Need-slice-aggregate-write-named
+slice-aggregate-write-named c = search needs
+
+write-named-requires : tie.Need-write-named-requires
+write-named-requires c κs = search needs
+
+slice-aggregate-write-named-2 : tie.Need-slice-aggregate-write-named-2
+slice-aggregate-write-named-2 c = search needs
+
+write-named-requires-2 : tie.Need-write-named-requires-2
+write-named-requires-2 c κs = search needs
+
+slice-aggregate-write-named-3 : tie.Need-slice-aggregate-write-named-3
+slice-aggregate-write-named-3 c = search needs
+
+write-named-requires-3 : tie.Need-write-named-requires-3
+write-named-requires-3 c κs = search needs
+
+write-field-requires : tie.Need-write-field-requires
+write-field-requires c κs = search needs
+
+same-length : tie.Need-same-length
+same-length c = search needs
+
+returns : tie.Need-returns
+returns c = search (needs, gauge-line)
+
+pub write-gauge-spec : {M : Type 1} → statement M
+write-gauge-spec =
+    tie.close
+    (tie.spec
+    slice-aggregate-write-named
+    write-named-requires
+    slice-aggregate-write-named-2
+    write-named-requires-2
+    slice-aggregate-write-named-3
+    write-named-requires-3
+    write-field-requires
+    same-length
+    returns)

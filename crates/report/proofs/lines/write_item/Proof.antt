@@ -1,0 +1,22 @@
+-- `report::lines::write_item` meets its contract.
+-- The two fields are appended in turn, by `item-line`.
+use borrow.Author.Needs.{needs}
+use Rattle.report.proofs.LineLaws.{item-line}
+use Rattle.report.proofs.lines.write_item.Statement.{statement}
+use Rattle.report.proofs.lines.write_item.Tie as tie
+
+write-field-requires : tie.Need-write-field-requires
+write-field-requires c κs = search needs
+
+write-field-requires-2 : tie.Need-write-field-requires-2
+write-field-requires-2 c κs = search needs
+
+same-length : tie.Need-same-length
+same-length c = search needs
+
+returns : tie.Need-returns
+returns c = search (needs, item-line)
+
+pub write-item-spec : {M : Type 1} → statement M
+write-item-spec =
+    tie.close (tie.spec write-field-requires write-field-requires-2 same-length returns)

@@ -1,0 +1,22 @@
+-- `report::render_refused` meets its contract.
+-- The word and the number are the line, by `refused-printed`.
+use borrow.Author.Needs.{needs}
+use Rattle.report.proofs.Faces.{refused-printed}
+use Rattle.report.proofs.render_refused.Statement.{statement}
+use Rattle.report.proofs.render_refused.Tie as tie
+
+slice-aggregate-write-named : tie.Need-slice-aggregate-write-named
+slice-aggregate-write-named c = search needs
+
+write-named-requires : tie.Need-write-named-requires
+write-named-requires c κs = search needs
+
+same-length : tie.Need-same-length
+same-length c = search needs
+
+returns : tie.Need-returns
+returns c = refused-printed _ _ _ _ (c .before .before .write-named .ensures) (c .before .before .before .before .before .before .pre)
+
+pub render-refused-spec : {M : Type 1} → statement M
+render-refused-spec =
+    tie.close (tie.spec slice-aggregate-write-named write-named-requires same-length returns)

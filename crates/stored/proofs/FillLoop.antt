@@ -1,0 +1,334 @@
+-- What the loop over the entries keeps: the parts of the stack are the last parts of the table, and their lists follow it.
+-- A gauge and a join each add one part after those that are there.
+use mathlib.Core.Path.{_≡_, refl, sym, ap, ap₂, subst, _∙_}
+use mathlib.Core.List.{List, [], _∷_, _++_}
+use Prim.Native.Nat.{ℕ, zero, suc, _+_, _*_, _-_, _≤_, _<_}
+use native.Mathlib.Omega.{arith}
+use lib.ListN.{length, getD, take, drop, length-append, length-drop}
+use lib.Seq.{getD-take, length-take-le}
+use Rattle.checks.specs.Answer.{taken}
+use Rattle.checks.proofs.Answers.{same-taken}
+use Rattle.slicing.specs.Item.{Item}
+use Rattle.slicing.specs.Tree.{Tree, gauge, beside, stacked, gaugesOf, sizesOf, gaugeCount, sizeCount}
+use Rattle.slicing.specs.Good.{Good}
+use Rattle.slicing.specs.Shapes.{shapes}
+use Rattle.slicing.proofs.Counts.{counted, gauges-joined, sizes-joined}
+use Rattle.slicing.proofs.Depths.{depth-few}
+use Rattle.slicing.proofs.ShapeLaws.{shapes-short}
+use Rattle.slicing.proofs.Stored.{storedItems}
+use Rattle.facefile.specs.Format.{State, start, faceOf}
+use Rattle.facefile.specs.Kinds.{kindOf}
+use Rattle.facefile.specs.Tracking.{flat}
+use Rattle.facefile.specs.Sizes.{sizesIn}
+use Rattle.facefile.proofs.SizesIn.{from-in, in-same, in-length}
+use Rattle.facefile.proofs.Took.{Cut, cut-beside, cut-stacked}
+use Rattle.facefile.proofs.Taken.{GoodParts}
+use Rattle.facefile.proofs.Walk.{Walk, walk-start, walk-end, GaugeTurn, gauge-turn, JoinTurn, join-turn}
+use Rattle.stored.specs.Packed.{ownShapes}
+use Rattle.stored.specs.Store.{Entry, Stored}
+use Rattle.stored.specs.Filling.{Between, Lies, Added, Rows, Fillable, Filled}
+use Rattle.stored.specs.Adding.{Room, JoinRoom}
+use Rattle.stored.proofs.OwnLists.{entry-of, own-length, cut-kind}
+use Rattle.stored.proofs.StoredRows.{stored-frame, lies-frame, rows-frame, rows-total, used, used-few}
+
+pub record Filling (file s₀ s : List ℕ) (at part to : ℕ) : Type 0 where
+  pub ready : Fillable file s₀
+  pub state : State
+  pub walk : Walk file (ready .tree) at state
+  pub length-kept : length s ≡ length s₀
+  pub rows : Rows s to (state .stack) part
+  pub used-is : to ≡ 508 + used (state .stack)
+
+pub filling-start : (file s : List ℕ) → Fillable file s → Filling file s s 7 0 508
+filling-start file s ready =
+    record {
+      ready = ready;
+      state = start file;
+      walk = walk-start file (ready .tree) (ready .face);
+      length-kept = refl;
+      rows = refl;
+      used-is = refl;
+    }
+
+own-gauge : (z : List Item) → ownShapes (gauge z) ≡ z
+unfolding ownShapes shapes
+own-gauge z = refl
+
+-- The items of a part are few.
+own-few : (t : Tree) → Good t → length (ownShapes t) ≤ 7 * gaugeCount t + 1
+own-few t good =
+    let n = own-length t in
+    let short = shapes-short 0 t good in
+    let most = counted t good .most in
+    omega arith
+
+lies-between : (s : List ℕ) (to x : ℕ) (t : Tree) → Lies s to x t → Between s to x t
+lies-between s to x (gauge z) l = l
+lies-between s to x (beside a b) l = l .0
+lies-between s to x (stacked a b) l = l .0
+
+-- The same of both joins.
+cut-good : (kind : ℕ) (cut : Tree → Tree → Tree) → Cut kind cut → (a b : Tree) → Good a → Good b → Good (cut a b)
+cut-good kind cut cut-beside a b x y = (x, y)
+cut-good kind cut cut-stacked a b x y = (x, y)
+
+cut-gauges : (kind : ℕ) (cut : Tree → Tree → Tree) → Cut kind cut → (a b : Tree) → gaugeCount (cut a b) ≡ gaugeCount a + gaugeCount b
+cut-gauges kind cut cut-beside a b = gauges-joined a b
+cut-gauges kind cut cut-stacked a b = gauges-joined a b
+
+cut-used : (kind : ℕ) (cut : Tree → Tree → Tree) → Cut kind cut → (a b : Tree) → sizeCount (cut a b) + storedItems 0 (cut a b) ≡ sizeCount a + storedItems 0 a + (sizeCount b + storedItems 0 b) + length (ownShapes (cut a b))
+cut-used kind cut cut-beside a b = let n = sizes-joined a b in let m = own-length (beside a b) in omega arith
+cut-used kind cut cut-stacked a b = let n = sizes-joined a b in let m = own-length (stacked a b) in omega arith
+
+cut-stored : (kind : ℕ) (cut : Tree → Tree → Tree) → Cut kind cut → (a b : Tree) (z : List ℕ) (e : ℕ) → Entry z e kind (gaugeCount a + gaugeCount b) (ownShapes (cut a b)) → 2 * (gaugeCount a + gaugeCount b) ≤ e + 2 → Stored z (e - 1) b → Stored z (e - 2 * gaugeCount b) a → Stored z e (cut a b)
+cut-stored kind cut cut-beside a b z e h n x y =
+    let g = gauges-joined a b in
+    (subst (λ (m : ℕ). Entry z e 0x02 m (ownShapes (beside a b))) (sym g) h, omega arith, x, y)
+cut-stored kind cut cut-stacked a b z e h n x y =
+    let g = gauges-joined a b in
+    (subst (λ (m : ℕ). Entry z e 0x03 m (ownShapes (stacked a b))) (sym g) h, omega arith, x, y)
+
+cut-lies : (kind : ℕ) (cut : Tree → Tree → Tree) → Cut kind cut → (a b : Tree) (z : List ℕ) (to e : ℕ) → Between z to e (cut a b) → Lies z to (e - 1) b → Lies z to (e - 2 * gaugeCount b) a → Lies z to e (cut a b)
+cut-lies kind cut cut-beside a b z to e h x y = (h, x, y)
+cut-lies kind cut cut-stacked a b z to e h x y = (h, x, y)
+
+module _ (file s₀ s : List ℕ) (at part to : ℕ) (k : Filling file s₀ s at part to) where
+  abbrev face : Tree
+  face = k .ready .tree
+
+  long : 16_384 ≤ length s
+  long = let l = k .ready .long in let same = k .length-kept in omega arith
+
+  place-few : (508 ≤ to) × (to ≤ 15_644)
+  place-few =
+      let u = k .used-is in
+      let c = k .walk .sound .counted in
+      let f = k .walk .sound .few in
+      let few = used-few (k .state .stack) (k .walk .sound .good) (omega arith) in
+      (omega arith, omega arith)
+
+  module _ (more : at < length file) where
+    module _ (e : getD file at 0 ≡ 1) where
+      turn : GaugeTurn file face at (k .state)
+      turn = gauge-turn file face at (k .state) (k .walk) more e
+
+      pub gauge-inside : at + 2 + 4 * getD file (at + 1) 0 ≤ length file
+      gauge-inside = omega (arith, turn .count-is, turn .fits)
+
+      module _ (n : ℕ) (is-count : n ≡ getD file (at + 1) 0) where
+        count-is : turn .count ≡ n
+        count-is = sym (turn .count-is) ∙ sym is-count
+
+        abbrev bytes : List ℕ
+        bytes = take (at + 2 + 4 * n - (at + 2)) (drop (at + 2) file)
+
+        bytes-long : length bytes ≡ 4 * n
+        bytes-long =
+            let left = length-drop (at + 2) file in
+            let inside = gauge-inside in
+            length-take-le (at + 2 + 4 * n - (at + 2)) (drop (at + 2) file) (omega arith) ∙ omega arith
+
+        sized : turn .sizes ≡ sizesIn n bytes
+        sized =
+            from-in (turn .count) (drop (at + 2) file) (turn .sizes) (turn .sized)
+            ∙ ap (λ (m : ℕ). sizesIn m (drop (at + 2) file)) count-is
+            ∙ in-same n (drop (at + 2) file) bytes
+            (λ i less. sym (getD-take (at + 2 + 4 * n - (at + 2)) (drop (at + 2) file) i 0 (omega arith)))
+
+        as-many : length (turn .sizes) ≡ n
+        as-many = ap length sized ∙ in-length n bytes
+
+        part-few : part < 127
+        part-few =
+            let total = rows-total s to (k .state .stack) part (k .rows) in
+            let new = turn .walk .sound .counted in
+            let few = turn .walk .sound .few in
+            let stack = ap (λ (x : List Tree). length (flat gaugesOf x)) (turn .stack) ∙ length-append (flat gaugesOf (k .state .stack)) (turn .sizes ∷ []) in
+            omega arith
+
+        few-sizes : n ≤ 8
+        few-sizes = let most = turn .most in let c = count-is in omega arith
+
+        pub gauge-room : Room s part to n × (length bytes ≡ 4 * n) × (n ≤ 8)
+        gauge-room =
+            let p = place-few in
+            let few = few-sizes in
+            (record { long = long; part = part-few; from = p .0; items = omega arith }, bytes-long, few)
+
+        pub gauge-fits : to + n < 65_536
+        gauge-fits = let p = place-few in let few = few-sizes in omega arith
+
+        pub filling-gauge : (z : List ℕ) → Added s z part to 1 1 (sizesIn n bytes) → Filling file s₀ z (at + 2 + 4 * n) (part + 1) (to + n)
+        filling-gauge z d =
+            let v = turn .sizes in
+            let p = place-few in
+            let back : part ≡ part + 1 - 1 = omega arith in
+            let list : sizesIn n bytes ≡ ownShapes (gauge v) = sym sized ∙ sym (own-gauge v) in
+            let long-list = ap length list ∙ refl in
+            let many = in-length n bytes in
+            let here : Stored z (part + 1 - 1) (gauge v) = subst (λ (x : ℕ). Entry z x 0x01 1 (ownShapes (gauge v))) back (subst (λ (l : List Item). Entry z part 0x01 1 l) list (d .entry)) in
+            let lies : Lies z (to + n) (part + 1 - 1) (gauge v) = subst (λ (x : ℕ). Between z (to + n) x (gauge v)) back (let f = d .from-is in (omega arith, omega arith)) in
+            let below : Rows z (to + n) (k .state .stack) part = rows-frame s z part to (to + n) (d .length-kept) (d .table-kept) (d .lists-kept) (omega arith) (k .state .stack) part (omega arith) (k .rows) in
+            let all : Rows z (to + n) (gauge v ∷ k .state .stack) (part + 1) = (part, omega arith, here, lies, below) in
+            record {
+              ready = k .ready;
+              state = turn .next;
+              walk = subst (λ (i : ℕ). Walk file face i (turn .next)) (ap (λ (m : ℕ). at + 2 + 4 * m) count-is) (turn .walk);
+              length-kept = d .length-kept ∙ k .length-kept;
+              rows = subst (λ (x : List Tree). Rows z (to + n) x (part + 1)) (sym (turn .stack)) all;
+              used-is = let u = k .used-is in let stack = ap used (turn .stack) in let m = as-many in omega arith;
+            }
+
+    module _ (e : getD file at 0 ≡ 1 → ⊥) where
+      joining : JoinTurn file face at (k .state)
+      joining = join-turn file face at (k .state) (k .walk) more e
+
+      abbrev older : Tree
+      older = joining .older
+
+      abbrev newer : Tree
+      newer = joining .newer
+
+      abbrev rest : List Tree
+      rest = joining .parts
+
+      stand : Rows s to (newer ∷ older ∷ rest) part
+      stand = subst (λ (x : List Tree). Rows s to x part) (joining .stack-before) (k .rows)
+
+      abbrev mid : ℕ
+      mid = stand .0
+
+      abbrev lo : ℕ
+      lo = stand .4 .0
+
+      good : Good newer × Good older
+      good = let all = subst (λ (x : List Tree). GoodParts x) (joining .stack-before) (k .walk .sound .good) in (all .0, all .1 .0)
+
+      gauges-few : gaugeCount older + gaugeCount newer ≤ 64
+      gauges-few =
+          let all = ap (λ (x : List Tree). length (flat gaugesOf x)) (joining .stack-before) in
+          let one = length-append (flat gaugesOf (older ∷ rest)) (gaugesOf newer) in
+          let last = length-append (flat gaugesOf rest) (gaugesOf older) in
+          let c = k .walk .sound .counted in
+          let f = k .walk .sound .few in
+          omega arith
+
+      numbers : (mid - 1 ≡ part - 2 * gaugeCount newer) × (1 ≤ part) × (2 * gaugeCount newer ≤ part) × (part < 127)
+      numbers =
+          let first = stand .1 in
+          let second = stand .4 .1 in
+          let x = depth-few older in
+          let y = depth-few newer in
+          let few = gauges-few in
+          let total = rows-total s to (k .state .stack) part (k .rows) in
+          let c = k .walk .sound .counted in
+          let f = k .walk .sound .few in
+          let two = ap length (joining .stack-before) in
+          (omega arith, omega arith, omega arith, omega arith)
+
+      older-stored : Stored s (part - 2 * gaugeCount newer) older × Lies s to (part - 2 * gaugeCount newer) older
+      older-stored =
+          subst (λ (x : ℕ). Stored s x older × Lies s to x older) (numbers .0) (stand .4 .2, stand .4 .3)
+
+      module _ (kind : ℕ) (kind-is : kind ≡ getD file at 0) where
+        cut : Cut kind (joining .cut)
+        cut = rw kind-is (joining .kind)
+
+        join-room : JoinRoom s part to kind (joining .cut) older newer
+        join-room =
+            let p = place-few in
+            let n = numbers in
+            let few = gauges-few in
+            let u = own-few older (good .1) in
+            let v = own-few newer (good .0) in
+            record {
+              is-cut = cut;
+              room = record { long = long; part = n .3; from = p .0; items = omega arith };
+              newer-before = n .1;
+              older-before = n .2;
+              older = entry-of s (part - 2 * gaugeCount newer) older (older-stored .0);
+              newer = entry-of s (part - 1) newer (stand .2);
+              older-between = lies-between s to (part - 2 * gaugeCount newer) older (older-stored .1);
+              newer-between = lies-between s to (part - 1) newer (stand .3);
+              older-good = good .1;
+              newer-good = good .0;
+              few = few;
+            }
+
+        pub join-ready : (c : Tree → Tree → Tree) × (a : Tree) × (b : Tree) × JoinRoom s part to kind c a b
+        join-ready = (joining .cut, older, newer, join-room)
+
+        abbrev Joined : List ℕ → ℕ → Type 0
+        Joined z n =
+            (c : Tree → Tree → Tree) (a b : Tree) → JoinRoom s part to kind c a b → Added s z part to kind (gaugeCount a + gaugeCount b) (ownShapes (c a b)) × (n ≡ length (ownShapes (c a b)))
+
+        module _ (z : List ℕ) (n : ℕ) (joined : Joined z n) where
+          abbrev added : Added s z part to kind (gaugeCount older + gaugeCount newer) (ownShapes (joining .cut older newer))
+          added = joined (joining .cut) older newer join-room .0
+
+          item-count : n ≡ length (ownShapes (joining .cut older newer))
+          item-count = joined (joining .cut) older newer join-room .1
+
+          pub join-fits : (n ≤ 512) × (to + n < 65_536)
+          join-fits =
+              let p = place-few in
+              let m = item-count in
+              let short = own-few (joining .cut older newer) (cut-good kind (joining .cut) cut older newer (good .1) (good .0)) in
+              let g = cut-gauges kind (joining .cut) cut older newer in
+              let few = gauges-few in
+              (omega arith, omega arith)
+
+          new-stored : Stored z part (joining .cut older newer)
+          new-stored =
+              cut-stored kind (joining .cut) cut older newer z part (added .entry) (let w = numbers .2 in let second = stand .4 .1 in let first = stand .1 in omega arith)
+              (stored-frame s z part to (to + n) (added .length-kept) (added .table-kept) (added .lists-kept) (omega arith) newer (part - 1) (let w = numbers .1 in omega arith) (stand .2) (stand .3))
+              (stored-frame s z part to (to + n) (added .length-kept) (added .table-kept) (added .lists-kept) (omega arith) older (part - 2 * gaugeCount newer) (let w = numbers .2 in let y = depth-few newer in omega arith) (older-stored .0) (older-stored .1))
+
+          new-lies : Lies z (to + n) part (joining .cut older newer)
+          new-lies =
+              cut-lies kind (joining .cut) cut older newer z (to + n) part
+              (let f = added .from-is in let p = place-few in let m = item-count in (omega arith, omega arith))
+              (lies-frame s z part to (to + n) (added .length-kept) (added .table-kept) (added .lists-kept) (omega arith) newer (part - 1) (let w = numbers .1 in omega arith) (stand .3))
+              (lies-frame s z part to (to + n) (added .length-kept) (added .table-kept) (added .lists-kept) (omega arith) older (part - 2 * gaugeCount newer) (let w = numbers .2 in let y = depth-few newer in omega arith) (older-stored .1))
+
+          pub filling-join : Filling file s₀ z (at + 1) (part + 1) (to + n)
+          filling-join =
+              let back : part ≡ part + 1 - 1 = omega arith in
+              let first = stand .1 in
+              let second = stand .4 .1 in
+              let g = cut-gauges kind (joining .cut) cut older newer in
+              let below : Rows z (to + n) rest lo = rows-frame s z part to (to + n) (added .length-kept) (added .table-kept) (added .lists-kept) (omega arith) rest lo (let x = depth-few older in let y = depth-few newer in omega arith) (stand .4 .4) in
+              let all : Rows z (to + n) (joining .cut older newer ∷ rest) (part + 1) = (lo, omega arith, subst (λ (x : ℕ). Stored z x (joining .cut older newer)) back new-stored, subst (λ (x : ℕ). Lies z (to + n) x (joining .cut older newer)) back new-lies, below) in
+              record {
+                ready = k .ready;
+                state = joining .next;
+                walk = joining .walk;
+                length-kept = added .length-kept ∙ k .length-kept;
+                rows = subst (λ (x : List Tree). Rows z (to + n) x (part + 1)) (sym (joining .stack)) all;
+                used-is =
+                    let u = k .used-is in
+                    let before = ap used (joining .stack-before) in
+                    let after = ap used (joining .stack) in
+                    let m = item-count in
+                    let w = cut-used kind (joining .cut) cut older newer in
+                    omega arith;
+              }
+
+  module _ (over : length file ≤ at) where
+    last-stack : k .state .stack ≡ face ∷ []
+    last-stack = walk-end file face at (k .state) (k .walk) over
+
+    root : Rows s to (face ∷ []) part
+    root = subst (λ (x : List Tree). Rows s to x part) last-stack (k .rows)
+
+    pub filled-some : 1 ≤ part
+    filled-some = let n = root .1 in let none = root .4 in let x = depth-few face in omega arith
+
+    pub filled : (t : Tree) → faceOf file ≡ taken t → Filled s₀ s (part - 1) t
+    filled t e =
+        let same : face ≡ t = same-taken face t (sym (k .ready .face) ∙ e) in
+        let n = root .1 in
+        let none = root .4 in
+        let some = filled-some in
+        subst (λ (x : Tree). Filled s₀ s (part - 1) x) same
+        (record { length-kept = k .length-kept; last = omega arith; stored = root .2 })

@@ -1,0 +1,10 @@
+pub mod Reading
+pub mod StoredLists
+pub mod MergeTurns
+pub mod Merging
+pub mod EntryLaws
+pub mod Packing
+pub mod OwnLists
+pub mod JoinedLists
+pub mod StoredRows
+pub mod FillLoop

@@ -1,0 +1,62 @@
+-- A part's stored list, read the way of a join, is the shape list or that turned; and the merge of two lists so read is the join's own.
+-- Stacked parts are stored by width and others by height, which is how the list of each is defined.
+use mathlib.Core.Path.{_≡_, refl, sym, ap, ap₂, subst, _∙_}
+use mathlib.Core.List.{List, List·Memᴰ}
+use Prim.Native.Nat.{ℕ, _+_, _*_, _≤_, _<_}
+use native.Mathlib.Omega.{arith}
+use lib.ListN.{length}
+use Rattle.slicing.specs.Item.{Item}
+use Rattle.slicing.specs.Tree.{Tree, gauge, beside, stacked, gaugeCount}
+use Rattle.slicing.specs.Good.{Good}
+use Rattle.slicing.specs.Merge.{merge, swap, turn}
+use Rattle.slicing.specs.Shapes.{shapes}
+use Rattle.slicing.proofs.TurnLaws.{turn-turn, turn-length, turn-out}
+use Rattle.slicing.proofs.PartLists.{shapes-low}
+use Rattle.facefile.specs.Kinds.{kindOf, across}
+use Rattle.facefile.proofs.Took.{Cut, cut-beside, cut-stacked}
+use Rattle.stored.specs.Packed.{facing, ownShapes}
+use Rattle.stored.specs.Store.{Entry, Stored}
+
+pub entry-of : (s : List ℕ) (e : ℕ) (t : Tree) → Stored s e t → Entry s e (kindOf t) (gaugeCount t) (ownShapes t)
+entry-of s e (gauge z) h = h
+entry-of s e (beside a b) h = h .0
+entry-of s e (stacked a b) h = h .0
+
+pub own-length : (t : Tree) → length (ownShapes t) ≡ length (shapes 0 t)
+unfolding ownShapes
+own-length (gauge s) = refl
+own-length (beside a b) = refl
+own-length (stacked a b) = turn-length (shapes 0 (stacked a b))
+
+own-beside : (t : Tree) → facing (across (kindOf t) 0x02) (ownShapes t) ≡ shapes 0 t
+unfolding across ownShapes
+own-beside (gauge s) = refl
+own-beside (beside a b) = refl
+own-beside (stacked a b) = turn-turn (shapes 0 (stacked a b))
+
+own-stacked : (t : Tree) → facing (across (kindOf t) 0x03) (ownShapes t) ≡ turn (shapes 0 t)
+unfolding across ownShapes
+own-stacked (gauge s) = refl
+own-stacked (beside a b) = refl
+own-stacked (stacked a b) = refl
+
+pub own-merge : (kind : ℕ) (cut : Tree → Tree → Tree) → Cut kind cut → (a b : Tree) → merge 0 (facing (across (kindOf a) kind) (ownShapes a)) (facing (across (kindOf b) kind) (ownShapes b)) ≡ ownShapes (cut a b)
+unfolding ownShapes shapes
+own-merge kind cut cut-beside a b = ap₂ (merge 0) (own-beside a) (own-beside b)
+own-merge kind cut cut-stacked a b =
+    ap₂ (merge 0) (own-stacked a) (own-stacked b) ∙ sym (turn-turn (merge 0 (turn (shapes 0 a)) (turn (shapes 0 b))))
+
+pub own-low : (kind : ℕ) (cut : Tree → Tree → Tree) → Cut kind cut → (t : Tree) → Good t → (z : Item) → List·Memᴰ z (facing (across (kindOf t) kind) (ownShapes t)) → z .p ≤ 1_000 * gaugeCount t
+own-low kind cut cut-beside t good z i =
+    shapes-low t good z (subst (λ (l : List Item). List·Memᴰ z l) (own-beside t) i) .1
+own-low kind cut cut-stacked t good z i =
+    shapes-low t good (swap z) (turn-out z (shapes 0 t) (subst (λ (l : List Item). List·Memᴰ z l) (own-stacked t) i)) .0
+
+pub kind-low : (t : Tree) → kindOf t < 256
+kind-low (gauge s) = omega arith
+kind-low (beside a b) = omega arith
+kind-low (stacked a b) = omega arith
+
+pub cut-kind : (kind : ℕ) (cut : Tree → Tree → Tree) → Cut kind cut → (a b : Tree) → kind ≡ kindOf (cut a b)
+cut-kind kind cut cut-beside a b = refl
+cut-kind kind cut cut-stacked a b = refl

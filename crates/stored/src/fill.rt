@@ -1,0 +1,131 @@
+// The shape lists of every part of a taken file.
+ghost use mathlib.Core.Path.{_≡_};
+ghost use mathlib.Core.List.{List};
+ghost use Prim.Native.Nat.{ℕ, _+_, _*_, _<_, _≤_};
+ghost use lib.ListN.{length, getD};
+ghost use Rattle.checks.specs.Answer.{taken};
+ghost use Rattle.slicing.specs.Tree.{Tree, gaugeCount};
+ghost use Rattle.facefile.specs.Format.{faceOf};
+ghost use Rattle.facefile.specs.Sizes.{sizesIn};
+ghost use Rattle.stored.specs.Packed.{ownShapes, HasList};
+ghost use Rattle.stored.specs.Filling.{entryAt, stretchOf, Added, Fillable, Filled};
+ghost use Rattle.stored.specs.Adding.{Room, JoinRoom};
+use crate::item::packed;
+use crate::merge::Stretch;
+use crate::merge::merge_lists;
+use crate::table::COUNT;
+use crate::table::FROM;
+use crate::table::GAUGES;
+use crate::table::KIND;
+use crate::table::part_word;
+use facefile::field::field;
+
+// The words of the table, four a part. The lists follow it.
+const TABLE: usize = 508;
+
+// Writes the four words of a part in the table.
+fn store_entry(scratch: &mut [u32], part: usize, from: usize, count: usize, kind: u32, gauges: u32)
+    requires { ⌜ (4 * part + 4 ≤ length (now scratch)) × (from < 65536) × (count < 65536) × (part < 127) ⌝ }
+    ensures { λ _. ⌜ now (scratch .exit) ≡ entryAt (now (scratch .entry)) part from count kind gauges ⌝ }
+{
+    let at = 4 * part;
+    scratch[at] = from as u32;
+    scratch[at + 1] = count as u32;
+    scratch[at + 2] = kind;
+    scratch[at + 3] = gauges;
+}
+
+// Packs the sizes of a gauge, four bytes a size, from the place `to` on.
+fn store_sizes(scratch: &mut [u32], to: usize, bytes: &[u8], count: usize)
+    requires { ⌜ (length (now bytes) ≡ 4 * count) × (to + count ≤ length (now scratch)) × (count ≤ 8) ⌝ }
+    ensures { λ _. ⌜ HasList (now (scratch .exit)) to (sizesIn count (now (bytes .entry))) ⌝ }
+    ensures { λ _. ⌜ ((i : ℕ) → i < to → getD (now (scratch .exit)) i 0 ≡ getD (now (scratch .entry)) i 0) ⌝ }
+{
+    let mut k = 0;
+    while k < count {
+        let height = field(bytes, 4 * k);
+        let width = field(bytes, 4 * k + 2);
+        scratch[to + k] = packed(height, width);
+        k += 1;
+    }
+}
+
+// Adds a gauge as a part: its sizes from the place `to` on.
+fn store_gauge(scratch: &mut [u32], part: usize, to: usize, bytes: &[u8], count: usize)
+    requires { ⌜ Room (now scratch) part to count × (length (now bytes) ≡ 4 * count) × (count ≤ 8) ⌝ }
+    ensures { λ _. ⌜ Added (now (scratch .entry)) (now (scratch .exit)) part to 1 1 (sizesIn count (now (bytes .entry))) ⌝ }
+{
+    store_sizes(scratch, to, bytes, count);
+    store_entry(scratch, part, to, count, 1, 1);
+}
+
+// A byte as an index.
+fn wide(x: u8) -> usize
+    ensures { λ r. ⌜ (r ≡ x) × (r < 256) ⌝ }
+{
+    x as usize
+}
+
+// A kind as a byte.
+fn byte_of(x: usize) -> u8
+    requires { ⌜ x < 256 ⌝ }
+    ensures { λ r. ⌜ r ≡ x ⌝ }
+{
+    x as u8
+}
+
+// The list of a part, to be read the way of a join.
+fn stretch(scratch: &[u32], part: usize, join: u8) -> Stretch
+    requires { ⌜ (4 * part + 3 < length (now scratch)) × (getD (now scratch) (4 * part + 2) 0 < 256) ⌝ }
+    ensures { λ r. ⌜ r ≡ stretchOf (now (scratch .entry)) part join ⌝ }
+{
+    Stretch {
+        from: part_word(scratch, part, FROM),
+        count: part_word(scratch, part, COUNT),
+        across: facefile::runs_across(byte_of(part_word(scratch, part, KIND)), join),
+    }
+}
+
+// Adds a join of the part before it and the older part before that: the merge of their lists from the place `to` on.
+// Answers how many items it has.
+fn store_join(scratch: &mut [u32], part: usize, to: usize, kind: u8) -> usize
+    requires { ⌜ ((cut : Tree → Tree → Tree) × (a : Tree) × (b : Tree) × JoinRoom (now scratch) part to kind cut a b) ⌝ }
+    ensures { λ r. ⌜ ((cut : Tree → Tree → Tree) (a b : Tree) → JoinRoom (now (scratch .entry)) part to kind cut a b → Added (now (scratch .entry)) (now (scratch .exit)) part to kind (gaugeCount a + gaugeCount b) (ownShapes (cut a b)) × (r ≡ length (ownShapes (cut a b)))) ⌝ }
+{
+    let newer = part - 1;
+    let rest = part_word(scratch, newer, GAUGES);
+    let older = part - 2 * rest;
+    let first = part_word(scratch, older, GAUGES);
+    let a = stretch(scratch, older, kind);
+    let b = stretch(scratch, newer, kind);
+    let count = merge_lists(scratch, a, b, to);
+    store_entry(scratch, part, to, count, kind as u32, (first + rest) as u32);
+    count
+}
+
+// Stores the lists of every part of a taken file, in the order of its entries. Answers the number of the last part, which
+// is the whole face.
+pub fn store_lists(file: &[u8], scratch: &mut [u32]) -> usize
+    requires { ⌜ Fillable (now file) (now scratch) ⌝ }
+    ensures { λ r. ⌜ ((t : Tree) → faceOf (now (file .entry)) ≡ taken t → Filled (now (scratch .entry)) (now (scratch .exit)) r t) ⌝ }
+{
+    let mut at = 7;
+    let mut part = 0;
+    let mut to = TABLE;
+    while at < file.len() {
+        let kind = file[at];
+        if kind == facefile::GAUGE {
+            let count = wide(file[at + 1]);
+            let end = at + 2 + 4 * count;
+            store_gauge(scratch, part, to, &file[at + 2..end], count);
+            to += count;
+            at = end;
+            part += 1;
+        } else {
+            to += store_join(scratch, part, to, kind);
+            at += 1;
+            part += 1;
+        }
+    }
+    part - 1
+}
