@@ -4,7 +4,7 @@ use mathlib.Core.Path.{_≡_, refl}
 use mathlib.Core.Bool.{Bool, true, false}
 use Prim.Native.Nat.{ℕ, _≤_}
 use native.Mathlib.Omega.{arith}
-use Rattle.checks.specs.Check.{Check, Length, Mark, Version, Entries, Present, Kind, SizeCount, Limits, Order, Gauges, Join, OnePart, AtEnd, LevelCount, LevelRange, Buffers, Output, LazyList, Place, numberOf}
+use Rattle.checks.specs.Check.{Check, Length, Mark, Version, Entries, Present, Kind, SizeCount, Limits, Order, Gauges, Join, OnePart, AtEnd, LevelCount, LevelRange, Opening, Buffers, Output, Fits, LazyList, Place, numberOf}
 use Rattle.checks.specs.Answer.{Answer, refused, taken, ask, next, number}
 
 -- No check has the number of a taken call.
@@ -24,8 +24,10 @@ number-positive OnePart = omega arith
 number-positive AtEnd = omega arith
 number-positive LevelCount = omega arith
 number-positive LevelRange = omega arith
+number-positive Opening = omega arith
 number-positive Buffers = omega arith
 number-positive Output = omega arith
+number-positive Fits = omega arith
 number-positive LazyList = omega arith
 number-positive Place = omega arith
 

@@ -32,10 +32,14 @@ pub data Check : Type 0 where
   LevelCount : Check
   -- Each level 1 to 8?
   LevelRange : Check
+  -- Opening height and width both 1 to 64,000?
+  Opening : Check
   -- Arena and scratch, each 16,384 32-bit words or more?
   Buffers : Check
   -- Output long enough?
   Output : Check
+  -- Does a layout fit?
+  Fits : Check
   -- Does the arena hold a lazy list?
   LazyList : Check
   -- Is the place from 1 to its length?
@@ -58,7 +62,9 @@ numberOf OnePart = 12
 numberOf AtEnd = 13
 numberOf LevelCount = 14
 numberOf LevelRange = 15
+numberOf Opening = 16
 numberOf Buffers = 17
 numberOf Output = 18
+numberOf Fits = 19
 numberOf LazyList = 20
 numberOf Place = 21

@@ -34,10 +34,16 @@ pub const LEVEL_COUNT: u32 = 14;
 
 pub const LEVEL_RANGE: u32 = 15;
 
+// Of the opening.
+pub const OPENING: u32 = 16;
+
 // Of the lent buffers.
 pub const BUFFERS: u32 = 17;
 
 pub const OUTPUT: u32 = 18;
+
+// Of the face.
+pub const FITS: u32 = 19;
 
 // Of an arena that is read.
 pub const LAZY_LIST: u32 = 20;

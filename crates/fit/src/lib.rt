@@ -1,7 +1,10 @@
 // The smallest layout of a face in an opening.
+mod fitting;
 pub mod lay;
 pub mod pick;
 mod take;
+
+pub use fitting::fit;
 
 // The place of an item in a list, if there is one.
 pub struct Picked {
@@ -13,4 +16,14 @@ pub struct Picked {
 pub struct Taken {
     pub place: usize,
     pub extent: u32,
+}
+
+// What the fit call answers: the number, and of the layout that was written its height, its width and their product,
+// and the length of the root's list. They are 0 where the number is not.
+pub struct Fitted {
+    pub number: u32,
+    pub height: u32,
+    pub width: u32,
+    pub area: u32,
+    pub count: u32,
 }

@@ -60,7 +60,7 @@ module _ (file levels a b out : List ℕ) (kind : ℕ) (t : Tree) (face : faceOf
       let least = face-taken file t face .least in
       record { linked = w .part .built .linked; few = few-records; room = omega arith }
 
-  root-list : RootList levels b t
+  pub root-list : RootList levels b t
   root-list =
       let most = face-taken file t face .most in
       record {

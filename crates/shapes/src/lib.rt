@@ -2,6 +2,7 @@
 mod listing;
 mod write;
 
+pub use listing::levels_in_range;
 pub use listing::list;
 
 // What the list call answers: the number, and the item count, which is 0 where the number is not.

@@ -13,7 +13,7 @@ use parts::build::build;
 const WORDS: usize = 16_384;
 
 // Whether each level is 1 to 8.
-fn levels_in_range(levels: &[u8]) -> bool
+pub fn levels_in_range(levels: &[u8]) -> bool
     ensures { λ r. ⌜ r ≡ levelsInRange (now (levels .entry)) ⌝ }
 {
     let mut i = 0;
