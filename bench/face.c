@@ -59,14 +59,30 @@ static unsigned file_number(bytes file, cursor *c) {
     return c->at == file.length ? 0 : 13;
 }
 
-unsigned face_number(bytes file, bytes levels, words arena, words scratch, words output) {
-    cursor c = {0, 0, 0, 0};
-    unsigned number = file_number(file, &c);
-    if (number != 0) return number;
-    if (levels.length != c.sizes) return 14;
+static unsigned levels_number(bytes levels, const cursor *c) {
+    if (levels.length != c->sizes) return 14;
     for (size_t i = 0; i < levels.length; i++) {
         if (levels.bytes[i] < 1 || levels.bytes[i] > 8) return 15;
     }
+    return 0;
+}
+
+unsigned face_number(bytes file, bytes levels, words arena, words scratch, words output) {
+    cursor c = {0, 0, 0, 0};
+    unsigned number = file_number(file, &c);
+    if (number == 0) number = levels_number(levels, &c);
+    if (number != 0) return number;
     if (arena.length < 16384 || scratch.length < 16384) return 17;
     return output.length < 2 * (c.sizes - c.gauges + 1) ? 18 : 0;
+}
+
+unsigned fit_number(bytes file, bytes levels, uint32_t height, uint32_t width, words arena, words scratch,
+                    words output) {
+    cursor c = {0, 0, 0, 0};
+    unsigned number = file_number(file, &c);
+    if (number == 0) number = levels_number(levels, &c);
+    if (number != 0) return number;
+    if (height < 1 || height > 64000 || width < 1 || width > 64000) return 16;
+    if (arena.length < 16384 || scratch.length < 16384) return 17;
+    return output.length < 5 * c.gauges ? 18 : 0;
 }

@@ -1,4 +1,4 @@
-// Document 01's checks of the list call in C, for the programs that are measured beside the Rattle code.
+// Document 01's checks of the list and fit calls in C, for the programs that are measured beside the Rattle code.
 #ifndef FACE_H
 #define FACE_H
 
@@ -17,7 +17,10 @@ typedef struct {
     size_t length;
 } words;
 
-// Checks 1 to 15, 17 and 18: the number of the first that fails, or 0.
+// Checks 1 to 15, 17 and 18 of the list call: the number of the first that fails, or 0.
 unsigned face_number(bytes file, bytes levels, words arena, words scratch, words output);
+
+// Checks 1 to 18 of the fit call.
+unsigned fit_number(bytes file, bytes levels, uint32_t height, uint32_t width, words arena, words scratch, words output);
 
 #endif

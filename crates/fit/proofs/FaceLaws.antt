@@ -30,7 +30,8 @@ use Rattle.fit.specs.Fitting.{noFace, faceFound, faceWords}
 use Rattle.fit.specs.Facing.{Placeable, PlacedFace, PlacedIn}
 use Rattle.fit.proofs.FacingLaws.{Low, facing-low, m-is, p-is}
 use Rattle.fit.proofs.Looking.{product-low, halves-low}
-use Rattle.fit.proofs.PartLists.{table-inside, own-length}
+use Rattle.stored.proofs.OwnLists.{own-length}
+use Rattle.fit.proofs.PartLists.{table-inside}
 use Rattle.fit.proofs.TakeLaws.{Listed, stored-list, stored-count, stored-facing}
 use Rattle.fit.proofs.LayLaws.{root-layable}
 
@@ -105,9 +106,11 @@ module _ (file s z old : List ℕ) (root gauges h w : ℕ) (filled : (t : Tree) 
         pub face-lays : Placeable file gauges s old → (t : Tree) × Layable z root t gauges at 0 0 old
         face-lays p =
             let t = p .tree in
-            let e = p .face in
-            (t, subst (λ (n : ℕ). Layable z root t n at 0 0 old) (sym (p .gauges-is))
-              (root-layable z root t at old (stored t e) (face-taken file t e .good) (inside t e) (p .room)))
+            let e = p .face in (
+              t,
+              subst (λ (n : ℕ). Layable z root t n at 0 0 old) (sym (p .gauges-is))
+                  (root-layable z root t at old (stored t e) (face-taken file t e .good) (inside t e) (p .room)),
+            )
 
         pub face-counts : Placeable file gauges s old → count < 2 ^ 32
         face-counts p =

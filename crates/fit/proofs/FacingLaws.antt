@@ -7,13 +7,8 @@ use Prim.Native.Nat.{ℕ, _-_, _/_, _%_, _<_}
 use native.Mathlib.Omega.{arith}
 use lib.ListN.{length, getD}
 use Rattle.slicing.specs.Item.{Item, size}
-use Rattle.slicing.proofs.TurnLaws.{turn-length}
 use Rattle.stored.specs.Packed.{pack, facing, HasList}
 use Rattle.stored.proofs.Reading.{turn-at}
-
-pub facing-length : (across : Bool) (l : List Item) → length (facing across l) ≡ length l
-facing-length true l = turn-length l
-facing-length false l = refl
 
 -- Both of an item are below 65,536.
 pub record Low (z : Item) : Type 0 where

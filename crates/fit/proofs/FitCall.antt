@@ -64,16 +64,21 @@ demand-picked t o (picked z) means pick r old output e w =
     let v : r .width ≡ width z = ap (λ (x : Fitted). x .width) e in
     let a : r .area ≡ height z * width z = ap (λ (x : Fitted). x .area) e in
     record {
-      returned = λ zero.
-          (t, refl, (z,
-            record {
-              pick = pick;
-              written = w;
-              fits = means;
-              height-is = h ∙ sym (means .own-height);
-              width-is = v ∙ sym (means .own-width);
-              area-is = a ∙ sym (ap (λ (x : ℕ). x * r .width) h ∙ ap (λ (x : ℕ). height z * x) v);
-            }));
+      returned = λ zero. (
+        t,
+        refl,
+        (
+          z,
+          record {
+            pick = pick;
+            written = w;
+            fits = means;
+            height-is = h ∙ sym (means .own-height);
+            width-is = v ∙ sym (means .own-width);
+            area-is = a ∙ sym (ap (λ (x : ℕ). x * r .width) h ∙ ap (λ (x : ℕ). height z * x) v);
+          },
+        ),
+      );
       nothing-fits = λ none. absurd (omega arith);
       exactly-then = λ u same none.
           absurd

@@ -22,7 +22,8 @@ use Rattle.fit.specs.Taking.{facingItem, against, Takable, Takes}
 use Rattle.fit.specs.Laying.{shapeAt, movedBy, Layable, laid}
 use Rattle.fit.proofs.FacingLaws.{Low, facing-low, m-is, p-is}
 use Rattle.fit.proofs.OrderLaws.{index-at}
-use Rattle.fit.proofs.PartLists.{some-gauges, entry-of, table-inside, own-facing, own-length}
+use Rattle.stored.proofs.OwnLists.{entry-of, own-length}
+use Rattle.fit.proofs.PartLists.{some-gauges, table-inside, own-facing}
 use Rattle.fit.proofs.JoinLaws.{side, View, view, Edges, edges}
 
 -- The word of the item at the place of the part's list.

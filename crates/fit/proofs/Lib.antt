@@ -11,3 +11,4 @@ pub mod LayLaws
 pub mod FitLent
 pub mod FaceLaws
 pub mod FitCall
+pub mod Rows

@@ -13,7 +13,8 @@ use Rattle.slicing.specs.Item.{Item, size}
 use Rattle.slicing.specs.Fit.{fits}
 use Rattle.stored.specs.Packed.{pack, facing, HasList}
 use Rattle.fit.specs.Picking.{outline, Picks}
-use Rattle.fit.proofs.FacingLaws.{facing-length, Low, facing-low, m-is, p-is}
+use Rattle.stored.proofs.StoredLists.{facing-length}
+use Rattle.fit.proofs.FacingLaws.{Low, facing-low, m-is, p-is}
 use Rattle.fit.proofs.PickLaws.{rank, Standing, Narrow, standing-start, standing-past, standing-worse, standing-taken, standing-done}
 
 pub record Looking (s : List ℕ) (from count : ℕ) (across : Bool) (height width k place best : ℕ) : Type 0 where

@@ -16,18 +16,14 @@ use Rattle.slicing.proofs.ShapeLaws.{shapes-ordered}
 use Rattle.slicing.proofs.TurnLaws.{turn-turn, turn-length, turn-ordered}
 use Rattle.facefile.specs.Kinds.{kindOf}
 use Rattle.stored.specs.Packed.{facing, ownShapes}
-use Rattle.stored.specs.Store.{Entry, Stored}
+use Rattle.stored.specs.Store.{Stored}
+use Rattle.stored.proofs.OwnLists.{entry-of}
 use Rattle.fit.specs.Taking.{against}
 
 pub some-gauges : (t : Tree) → 1 ≤ gaugeCount t
 some-gauges (gauge s) = omega arith
 some-gauges (beside a b) = omega (arith, some-gauges a, gauges-joined a b)
 some-gauges (stacked a b) = omega (arith, some-gauges a, gauges-joined a b)
-
-pub entry-of : (s : List ℕ) (e : ℕ) (t : Tree) → Stored s e t → Entry s e (kindOf t) (gaugeCount t) (ownShapes t)
-entry-of s e (gauge z) h = h
-entry-of s e (beside a b) h = h .0
-entry-of s e (stacked a b) h = h .0
 
 -- A word that is not 0 is inside.
 word-inside : (s : List ℕ) (i : ℕ) → 1 ≤ getD s i 0 → i < length s
@@ -52,12 +48,6 @@ own-facing (beside a b) true = refl
 own-facing (beside a b) false = refl
 own-facing (stacked a b) true = refl
 own-facing (stacked a b) false = turn-turn (shapes 0 (stacked a b))
-
-pub own-length : (t : Tree) → length (ownShapes t) ≡ length (shapes 0 t)
-unfolding ownShapes
-own-length (gauge s) = refl
-own-length (beside a b) = refl
-own-length (stacked a b) = turn-length (shapes 0 (stacked a b))
 
 pub own-ordered : (t : Tree) → Good t → Ordered (ownShapes t)
 unfolding ownShapes

@@ -9,7 +9,8 @@ use lib.ListN.{length, getD}
 use Rattle.slicing.specs.Item.{Item, size}
 use Rattle.stored.specs.Packed.{pack, facing, HasList}
 use Rattle.fit.specs.Taking.{Searchable, FirstLow}
-use Rattle.fit.proofs.FacingLaws.{facing-length, facing-low, m-is}
+use Rattle.stored.proofs.StoredLists.{facing-length}
+use Rattle.fit.proofs.FacingLaws.{facing-low, m-is}
 use Rattle.fit.proofs.OrderLaws.{above-to, first-low, last-low, facing-ordered}
 
 -- The first item of at most the limit stands from low to high.

@@ -13,7 +13,8 @@ use Rattle.stored.specs.Packed.{pack, facing, ownShapes, HasList}
 use Rattle.stored.specs.Store.{Stored}
 use Rattle.fit.specs.Taking.{against}
 use Rattle.fit.specs.Laying.{shapeAt}
-use Rattle.fit.proofs.PartLists.{table-inside, own-length}
+use Rattle.stored.proofs.OwnLists.{own-length}
+use Rattle.fit.proofs.PartLists.{table-inside}
 use Rattle.fit.proofs.TakeLaws.{Listed, stored-list, stored-count, stored-facing}
 
 pub stored-inside : (s : List ℕ) (part k : ℕ) → ((t : Tree) × Stored s part t × (k < length (shapes 0 t))) → 4 * part + 3 < length s

@@ -15,8 +15,10 @@ use Rattle.stored.specs.Packed.{pack, facing, ownShapes, HasList}
 use Rattle.stored.specs.Store.{Stored}
 use Rattle.stored.proofs.Reading.{turn-at}
 use Rattle.fit.specs.Taking.{HasLow, Searchable, FirstLow, facingItem, against, Takable, Takes}
-use Rattle.fit.proofs.FacingLaws.{facing-length, facing-low, p-is}
-use Rattle.fit.proofs.PartLists.{entry-of, table-inside, own-facing, own-length, own-ordered}
+use Rattle.stored.proofs.StoredLists.{facing-length}
+use Rattle.fit.proofs.FacingLaws.{facing-low, p-is}
+use Rattle.stored.proofs.OwnLists.{entry-of, own-length}
+use Rattle.fit.proofs.PartLists.{table-inside, own-facing, own-ordered}
 
 turned-at : (upward : Bool) (l : List Item) (count k : ℕ) → upward ≡ true → count ≡ length l → k < length l → getD (facing upward l) k (size 0 0) ≡ facingItem upward (getD l (count - 1 - k) (size 0 0))
 turned-at true l count k up e h = turn-at l k h ∙ ap (λ (n : ℕ). swap (getD l (n - 1 - k) (size 0 0))) (sym e)

@@ -9,6 +9,11 @@ ghost use Rattle.slicing.specs.Shapes.{shapes};
 ghost use Rattle.stored.specs.Packed.{pack};
 ghost use Rattle.stored.specs.Store.{Stored};
 ghost use Rattle.fit.specs.Laying.{shapeAt, movedBy, Layable, laid};
+use crate::take::is_against;
+use crate::take::take_item;
+use stored::item::m_of;
+use stored::item::p_of;
+use stored::item::read_item;
 use stored::table::COUNT;
 use stored::table::FROM;
 use stored::table::GAUGE;
@@ -16,11 +21,6 @@ use stored::table::GAUGES;
 use stored::table::KIND;
 use stored::table::STACKED;
 use stored::table::part_word;
-use crate::take::is_against;
-use crate::take::take_item;
-use stored::item::m_of;
-use stored::item::p_of;
-use stored::item::read_item;
 
 // The item at a place of a part's shape list by height.
 fn item_at(scratch: &[u32], part: usize, place: usize) -> u32

@@ -6,14 +6,14 @@ ghost use Rattle.slicing.specs.Tree.{Tree};
 ghost use Rattle.stored.specs.Packed.{facing};
 ghost use Rattle.fit.specs.Taking.{Searchable, FirstLow, against, Takable, Takes};
 use crate::Taken;
+use stored::item::m_of;
+use stored::item::p_of;
+use stored::item::read_item;
 use stored::table::COUNT;
 use stored::table::FROM;
 use stored::table::KIND;
 use stored::table::STACKED;
 use stored::table::part_word;
-use stored::item::m_of;
-use stored::item::p_of;
-use stored::item::read_item;
 
 // The place of the first item whose m is at most the limit. There is such an item.
 fn first_no_larger(scratch: &[u32], from: usize, count: usize, across: bool, limit: u32) -> usize

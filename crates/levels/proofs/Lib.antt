@@ -5,4 +5,3 @@ pub mod Filling
 pub mod DepthStack
 pub mod Call
 pub mod Range
-pub mod Rows

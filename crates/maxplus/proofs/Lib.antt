@@ -3,5 +3,4 @@ pub mod OneRecord
 pub mod Following
 pub mod Answering
 pub mod ReadingWalk
-pub mod Row
 pub mod Holds

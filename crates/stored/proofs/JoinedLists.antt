@@ -103,9 +103,11 @@ module _ (s : List ℕ) (e to kind : ℕ) (cut : Tree → Tree → Tree) (a b : 
           (record {
             older = older .list;
             older-count = older .count-is;
+            older-after = let w = older-between .0 in omega arith;
             older-before = let c = older .count-is in let w = older-between .1 in omega arith;
             newer = g .newer .list;
             newer-count = g .newer .count-is;
+            newer-after = let w = g .newer-between .0 in omega arith;
             newer-before = let c = g .newer .count-is in let w = g .newer-between .1 in omega arith;
             room = let c = older .count-is in let d = g .newer .count-is in let items = g .room .items in let long = g .room .long in omega arith;
             low =

@@ -2,6 +2,8 @@ pub mod Reading
 pub mod StoredLists
 pub mod MergeTurns
 pub mod Merging
+pub mod Places
+pub mod Walking
 pub mod EntryLaws
 pub mod Packing
 pub mod OwnLists

@@ -1,4 +1,4 @@
--- The loop of `merge_lists`: what is written so far, followed by the merge of what is left of both lists, is the whole merge.
+-- The loop of `merge_lists`, by the numbers i and j of items passed: what is written so far, followed by the merge of what is left of both lists, is the whole merge.
 -- A turn writes the first item of that merge and passes what it takes, by `merge-turn`; where either list is at its end nothing is left.
 use mathlib.Core.Path.{_≡_, refl, sym, ap, _∙_}
 use mathlib.Core.Bool.{Bool, true, false}
@@ -73,12 +73,6 @@ module _ (s : List ℕ) (a b : Stretch) (to : ℕ) (z : List ℕ) (i j at : ℕ)
       let count = h .joinable .newer-count in
       let before = h .joinable .newer-before in
       has-kept s z (b .from) to (h .newer) (h .joinable .newer) (omega arith) (h .length-kept) (h .before-kept)
-
-  pub older-readable : i < a .count → (l : List Item) × HasList z (a .from) l × (a .count ≡ length l) × (i < a .count)
-  older-readable left = (h .older, older-kept, h .joinable .older-count, left)
-
-  pub newer-readable : j < b .count → (l : List Item) × HasList z (b .from) l × (b .count ≡ length l) × (j < b .count)
-  newer-readable left = (h .newer, newer-kept, h .joinable .newer-count, left)
 
   pub merging-room : i < a .count → j < b .count → at < length z
   merging-room i-left j-left =

@@ -1,7 +1,8 @@
 -- Two stored lists, each read as it runs or turned, and their merge written after them. No public contract cites it.
 use mathlib.Core.Path.{_≡_}
+use mathlib.Core.Bool.{true, false}
 use mathlib.Core.List.{List}
-use Prim.Native.Nat.{ℕ, _+_, _≤_, _<_}
+use Prim.Native.Nat.{ℕ, _+_, _^_, _≤_, _<_}
 use lib.ListN.{length, getD}
 use Rattle.slicing.specs.Item.{Item, size}
 use Rattle.slicing.specs.Merge.{merge}
@@ -16,13 +17,25 @@ readAs a l = facing (a .across) l
 abbrev pub mergeOf : Stretch → Stretch → List Item → List Item → List Item
 mergeOf a b l k = merge 0 (readAs a l) (readAs b k)
 
--- The stretches a and b of the scratch s are the lists l and k, both before the place `to`; from it on there is room for both, and the sums of their p fit.
+-- There is a place before the stretch, and the place after it fits in a usize.
+pub record Within (a : Stretch) : Type 0 where
+  pub after-first : 1 ≤ a .from
+  pub fits : a .from + a .count < 2 ^ 64
+
+-- Item k of the list of a stretch, read as the stretch says, is at a place of the scratch. For k the count, it is where a walk over the list ends.
+pub record AtItem (a : Stretch) (k place : ℕ) : Type 0 where
+  pub along : a .across ≡ false → place ≡ a .from + k
+  pub turned : a .across ≡ true → place + k + 1 ≡ a .from + a .count
+
+-- The stretches a and b of the scratch s are the lists l and k, both after the first word and before the place `to`; from it on there is room for both, and the sums of their p fit.
 pub record Joinable (s : List ℕ) (a b : Stretch) (to : ℕ) (l k : List Item) : Type 0 where
   pub older : HasList s (a .from) l
   pub older-count : a .count ≡ length l
+  pub older-after : 1 ≤ a .from
   pub older-before : a .from + a .count ≤ to
   pub newer : HasList s (b .from) k
   pub newer-count : b .count ≡ length k
+  pub newer-after : 1 ≤ b .from
   pub newer-before : b .from + b .count ≤ to
   pub room : to + a .count + b .count ≤ length s
   pub low : (i j : ℕ) → i < length l → j < length k → getD (readAs a l) i (size 0 0) .p + getD (readAs b k) j (size 0 0) .p < 65_536

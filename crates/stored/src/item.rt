@@ -27,7 +27,7 @@ pub fn p_of(w: u32) -> u32
 }
 
 // m and p change places.
-fn swapped(w: u32) -> u32
+pub fn swapped(w: u32) -> u32
     ensures { λ r. ⌜ r ≡ 65536 * (w % 65536) + w / 65536 ⌝ }
 {
     65536 * (w % 65536) + w / 65536

@@ -1,5 +1,6 @@
 -- `fit::lay::lay` meets its contract.
 -- The measure is the number of gauges, which each part has fewer of. A gauge's words are written at once; at a join each part takes its item and lays itself out, the newer in the stretch after the older's words.
+use native.Mathlib.Omega.{arith}
 use borrow.Author.Needs.{needs}
 use Rattle.fit.proofs.LayLaws.{layable-inside, layable-item, gauge-room, gauge-laid, join-some, newer-inside, counts, older-takes, newer-takes, right-fits, above-fits, lay-older, lay-newer, join-laid}
 use Prim.Native.Nat.{ℕ, _<_}
@@ -78,7 +79,11 @@ lay-write-gauge-requires : (t : ℕ) → lay-lts.Need-write-gauge-requires (
   lay-below t,
   lay.Post,
 ) (lay-at t) lay.Post
-lay-write-gauge-requires t c κs = gauge-room _ _ _ _ _ _ (c .before .before .before .before .before .before .args .out .now) _ (c .before .before .before .before .before .before .pre .1) (c .before .before .before .part-word .ensures) (c .before .if1 .taken)
+lay-write-gauge-requires t c κs =
+    let room = gauge-room _ _ _ _ _ _ (c .before .before .before .before .before .before .args .out .now) _ (c .before .before .before .before .before .before .pre .1) (c .before .before .before .part-word .ensures) (c .before .if1 .taken) in
+    let long = room .0 in
+    let small = room .1 in
+    (omega arith, omega arith)
 
 lay-same-length : (t : ℕ) → lay-lts.Need-same-length (
   part-word-reads.Asked,

@@ -2,6 +2,7 @@
 -- The loop keeps `Searching`, that the item looked for stands from the low place to the high one; the measure is how far they are apart.
 use Prim.Native.Nat.{_-_}
 use mathlib.Core.Path.{refl}
+use native.Mathlib.Omega.{arith}
 use borrow.Author.Needs.{needs}
 use Rattle.fit.proofs.Searching.{Searching, search-filled, search-start, can-read-middle, search-lower, search-upper, search-done}
 use Rattle.fit.proofs.take.first_no_larger.Statement.{statement}
@@ -35,7 +36,7 @@ loop-less : tie.Need-loop-less Inv-loop μ-loop
 loop-less c = search needs
 
 loop-again : tie.Need-loop-again Inv-loop μ-loop
-loop-again c = search-lower _ _ _ _ _ _ _ _ _ _ (c .before .before .before .before .loop .inv) (c .before .before .before .loop-test .taken) refl (c .before .before .read-item .ensures) (c .before .m-of .ensures) (c .if1 .taken)
+loop-again c = search-lower _ _ _ _ _ _ _ _ _ _ (c .before .before .before .before .loop .inv) (c .before .before .before .loop-test .taken) refl (c .before .before .read-item .ensures) (c .before .m-of .ensures) (let t = c .if1 .taken in omega arith)
 
 add-low : tie.Need-add-low Inv-loop μ-loop
 add-low c = search needs
@@ -44,7 +45,7 @@ loop-less-2 : tie.Need-loop-less-2 Inv-loop μ-loop
 loop-less-2 c = search needs
 
 loop-again-2 : tie.Need-loop-again-2 Inv-loop μ-loop
-loop-again-2 c = search-upper _ _ _ _ _ _ _ _ _ _ (c .before .before .before .before .loop .inv) (c .before .before .before .loop-test .taken) refl (c .before .before .read-item .ensures) (c .before .m-of .ensures) (c .if1 .left)
+loop-again-2 c = search-upper _ _ _ _ _ _ _ _ _ _ (c .before .before .before .before .loop .inv) (c .before .before .before .loop-test .taken) refl (c .before .before .read-item .ensures) (c .before .m-of .ensures) (let t = c .if1 .left in omega arith)
 
 returns : tie.Need-returns Inv-loop μ-loop
 returns c = search-done _ _ _ _ _ _ _ (c .before .loop .inv) (c .loop-test .left)

@@ -1,74 +1,88 @@
 -- `stored::merge::merge_lists` meets its contract.
--- The loop keeps `Merging`, that what is written, followed by the merge of what is left, is the whole merge; the measure is the items left of both lists.
-use Prim.Native.Nat.{_+_, _-_}
+-- The loop keeps `Walking`: what is written, followed by the merge of what is left, is the whole merge, and both places are those of the first items left. The measure is the items left of both lists.
+use Prim.Native.Nat.{_+_}
 use native.Mathlib.Omega.{arith}
 use borrow.Author.Needs.{needs}
-use Rattle.stored.proofs.Merging.{Merging, merging-start, older-readable, newer-readable, merging-room, merging-past, merging-older-out, merging-newer-out, merging-low, few-go, one-goes, merging-turn}
+use Rattle.stored.proofs.Merging.{few-go}
+use Rattle.stored.proofs.Places.{left}
+use Rattle.stored.proofs.Walking.{Walking, within-both, walking-start, walking-past, walking-older-out, walking-newer-out, older-inside, newer-inside, walking-room, walking-low, walking-turn, walking-less}
 use Rattle.stored.proofs.merge.merge_lists.Statement.{statement}
 use Rattle.stored.proofs.merge.merge_lists.Tie as tie
 
 abbrev Inv-loop : tie.InvT-loop
-Inv-loop scratch₀ a b to i₀ j₀ at₀ scratch i j at = Merging scratch₀ a b to scratch i j at
+Inv-loop scratch₀ a b to i₀ j₀ end stop at₀ scratch i j at = Walking scratch₀ a b to end stop scratch i j at
 
 abbrev μ-loop : tie.MeasureT-loop
-μ-loop scratch₀ a b to i₀ j₀ at₀ scratch i j at = (a .count - i) + (b .count - j)
+μ-loop scratch₀ a b to i₀ j₀ end stop at₀ scratch i j at = left a i + left b j
+
+first-of-requires : tie.Need-first-of-requires Inv-loop μ-loop
+first-of-requires c κs = within-both _ _ _ _ (c .before .pre) (c .before .fits .to .fits) .0
+
+first-of-requires-2 : tie.Need-first-of-requires-2 Inv-loop μ-loop
+first-of-requires-2 c κs = within-both _ _ _ _ (c .before .before .pre) (c .before .before .fits .to .fits) .1
+
+end-of-requires : tie.Need-end-of-requires Inv-loop μ-loop
+end-of-requires c κs = within-both _ _ _ _ (c .before .before .before .pre) (c .before .before .before .fits .to .fits) .0
+
+end-of-requires-2 : tie.Need-end-of-requires-2 Inv-loop μ-loop
+end-of-requires-2 c κs = within-both _ _ _ _ (c .before .before .before .before .pre) (c .before .before .before .before .fits .to .fits) .1
 
 loop-holds : tie.Need-loop-holds Inv-loop μ-loop
-loop-holds c = merging-start _ _ _ _ (c .before .pre)
+loop-holds c = walking-start _ _ _ _ _ _ _ _ (c .before .before .before .before .before .pre) (c .before .before .before .first-of .ensures) (c .before .before .first-of2 .ensures) (c .before .end-of .ensures) (c .end-of2 .ensures)
 
 sub-result : tie.Need-sub-result Inv-loop μ-loop
-sub-result c = merging-past _ _ _ _ _ _ _ _ (c .before .before .before .before .loop .inv)
+sub-result c = walking-past _ _ _ _ _ _ _ _ _ _ (c .before .before .loop .inv)
 
 same-length : tie.Need-same-length Inv-loop μ-loop
-same-length c = let same = (c .before .before .before .before .loop .inv) .length-kept in omega arith
+same-length c = let same = c .before .before .loop .inv .merging .length-kept in omega arith
 
 returns : tie.Need-returns Inv-loop μ-loop
-returns c = merging-newer-out _ _ _ _ _ _ _ _ (c .before .before .before .before .loop .inv) (c .if2 .taken)
+returns c = walking-newer-out _ _ _ _ _ _ _ _ _ _ (c .before .before .loop .inv) (c .if1 .taken)
 
-read-item-requires : tie.Need-read-item-requires Inv-loop μ-loop
-read-item-requires c κs = older-readable _ _ _ _ _ _ _ _ (c .before .before .before .before .before .loop .inv) (c .before .before .before .if1 .taken)
+read-at-requires : tie.Need-read-at-requires Inv-loop μ-loop
+read-at-requires c κs = older-inside _ _ _ _ _ _ _ _ _ _ (c .before .before .before .loop .inv) (c .before .before .loop-test .taken) .2
 
-read-item-requires-2 : tie.Need-read-item-requires-2 Inv-loop μ-loop
-read-item-requires-2 c κs = newer-readable _ _ _ _ _ _ _ _ (c .before .before .before .before .before .before .before .loop .inv) (c .before .before .before .if2 .left)
+read-at-requires-2 : tie.Need-read-at-requires-2 Inv-loop μ-loop
+read-at-requires-2 c κs = newer-inside _ _ _ _ _ _ _ _ _ _ (c .before .before .before .before .before .loop .inv) (c .before .before .before .if1 .left) .2
 
 pair-of-requires : tie.Need-pair-of-requires Inv-loop μ-loop
-pair-of-requires c κs = merging-low _ _ _ _ _ _ _ _ (c .before .before .before .before .before .before .before .before .loop .inv) (c .before .before .before .before .before .before .if1 .taken) (c .before .before .before .before .if2 .left) _ _ (c .before .before .read-item .ensures) (c .read-item2 .ensures)
+pair-of-requires c κs = walking-low _ _ _ _ _ _ _ _ _ _ (c .before .before .before .before .before .before .loop .inv) (c .before .before .before .before .before .loop-test .taken) (c .before .before .before .before .if1 .left) _ _ (c .before .before .read-at .ensures) (c .read-at2 .ensures)
 
 mul-scratch : tie.Need-mul-scratch Inv-loop μ-loop
-mul-scratch c = let room = merging-room _ _ _ _ _ _ _ _ (c .before .before .before .before .before .before .before .before .before .loop .inv) (c .before .before .before .before .before .before .before .if1 .taken) (c .before .before .before .before .before .if2 .left) in search needs
+mul-scratch c = let room = walking-room _ _ _ _ _ _ _ _ _ _ (c .before .before .before .before .before .before .before .loop .inv) (c .before .before .before .before .before .before .loop-test .taken) (c .before .before .before .before .before .if1 .left) in search needs
 
 slice-write-scratch : tie.Need-slice-write-scratch Inv-loop μ-loop
-slice-write-scratch c = merging-room _ _ _ _ _ _ _ _ (c .before .before .before .before .before .before .before .before .before .loop .inv) (c .before .before .before .before .before .before .before .if1 .taken) (c .before .before .before .before .before .if2 .left)
+slice-write-scratch c = walking-room _ _ _ _ _ _ _ _ _ _ (c .before .before .before .before .before .before .before .loop .inv) (c .before .before .before .before .before .before .loop-test .taken) (c .before .before .before .before .before .if1 .left)
 
 gone-requires : tie.Need-gone-requires Inv-loop μ-loop
 gone-requires c κs = search needs
 
-add-i : tie.Need-add-i Inv-loop μ-loop
-add-i c = let moves = few-go _ _ _ (c .gone .ensures) in search needs
+after-requires : tie.Need-after-requires Inv-loop μ-loop
+after-requires c κs = let inside = older-inside _ _ _ _ _ _ _ _ _ _ (c .before .before .before .before .before .before .before .before .loop .inv) (c .before .before .before .before .before .before .before .loop-test .taken) in let few = few-go _ _ _ (c .gone .ensures) in let fits = c .before .before .before .before .before .before .before .before .before .before .before .before .before .before .fits .to .fits in (omega arith, omega arith)
 
 gone-requires-2 : tie.Need-gone-requires-2 Inv-loop μ-loop
 gone-requires-2 c κs = search needs
 
-add-j : tie.Need-add-j Inv-loop μ-loop
-add-j c = let moves = one-goes _ _ _ _ (c .before .gone .ensures) (c .gone2 .ensures) in search needs
+after-requires-2 : tie.Need-after-requires-2 Inv-loop μ-loop
+after-requires-2 c κs = let inside = newer-inside _ _ _ _ _ _ _ _ _ _ (c .before .before .before .before .before .before .before .before .before .before .loop .inv) (c .before .before .before .before .before .before .before .before .if1 .left) in let few = few-go _ _ _ (c .gone2 .ensures) in let fits = c .before .before .before .before .before .before .before .before .before .before .before .before .before .before .before .before .fits .to .fits in (omega arith, omega arith)
 
 add-at : tie.Need-add-at Inv-loop μ-loop
-add-at c = let room = merging-room _ _ _ _ _ _ _ _ (c .before .before .before .before .before .before .before .before .before .before .before .loop .inv) (c .before .before .before .before .before .before .before .before .before .if1 .taken) (c .before .before .before .before .before .before .before .if2 .left) in search needs
+add-at c = let room = walking-room _ _ _ _ _ _ _ _ _ _ (c .before .before .before .before .before .before .before .before .before .before .before .loop .inv) (c .before .before .before .before .before .before .before .before .before .before .loop-test .taken) (c .before .before .before .before .before .before .before .before .before .if1 .left) in search needs
 
 loop-less : tie.Need-loop-less Inv-loop μ-loop
-loop-less c = let moves = one-goes _ _ _ _ (c .before .gone .ensures) (c .gone2 .ensures) in search needs
+loop-less c = walking-less _ _ _ _ _ _ _ _ _ _ (c .before .before .before .before .before .before .before .before .before .before .before .loop .inv) (c .before .before .before .before .before .before .before .before .before .before .loop-test .taken) (c .before .before .before .before .before .before .before .before .before .if1 .left) _ _ (c .before .before .before .before .before .before .before .read-at .ensures) (c .before .before .before .before .before .read-at2 .ensures) _ _ _ _ (c .before .before .before .gone .ensures) (c .before .gone2 .ensures) (c .before .before .after .ensures) (c .after2 .ensures)
 
 loop-again : tie.Need-loop-again Inv-loop μ-loop
-loop-again c = merging-turn _ _ _ _ _ _ _ _ (c .before .before .before .before .before .before .before .before .before .before .before .loop .inv) (c .before .before .before .before .before .before .before .before .before .if1 .taken) (c .before .before .before .before .before .before .before .if2 .left) _ _ (c .before .before .before .before .before .read-item .ensures) (c .before .before .before .read-item2 .ensures) _ _ _ (c .before .before .pair-of .ensures) (c .before .gone .ensures) (c .gone2 .ensures)
+loop-again c = walking-turn _ _ _ _ _ _ _ _ _ _ (c .before .before .before .before .before .before .before .before .before .before .before .loop .inv) (c .before .before .before .before .before .before .before .before .before .before .loop-test .taken) (c .before .before .before .before .before .before .before .before .before .if1 .left) _ _ (c .before .before .before .before .before .before .before .read-at .ensures) (c .before .before .before .before .before .read-at2 .ensures) _ _ _ _ (c .before .before .before .gone .ensures) (c .before .gone2 .ensures) (c .before .before .after .ensures) (c .after2 .ensures) _ (c .before .before .before .before .pair-of .ensures)
 
 sub-result-2 : tie.Need-sub-result-2 Inv-loop μ-loop
-sub-result-2 c = merging-past _ _ _ _ _ _ _ _ (c .before .before .loop .inv)
+sub-result-2 c = walking-past _ _ _ _ _ _ _ _ _ _ (c .before .loop .inv)
 
 same-length-2 : tie.Need-same-length-2 Inv-loop μ-loop
-same-length-2 c = let same = (c .before .before .loop .inv) .length-kept in omega arith
+same-length-2 c = let same = c .before .loop .inv .merging .length-kept in omega arith
 
 returns-2 : tie.Need-returns-2 Inv-loop μ-loop
-returns-2 c = merging-older-out _ _ _ _ _ _ _ _ (c .before .before .loop .inv) (c .if1 .left)
+returns-2 c = walking-older-out _ _ _ _ _ _ _ _ _ _ (c .before .loop .inv) (c .loop-test .left)
 
 pub merge-lists-spec : {M : Type 1} → statement M
 merge-lists-spec =
@@ -76,19 +90,23 @@ merge-lists-spec =
     (tie.spec
     Inv-loop
     μ-loop
+    first-of-requires
+    first-of-requires-2
+    end-of-requires
+    end-of-requires-2
     loop-holds
     sub-result
     same-length
     returns
-    read-item-requires
-    read-item-requires-2
+    read-at-requires
+    read-at-requires-2
     pair-of-requires
     mul-scratch
     slice-write-scratch
     gone-requires
-    add-i
+    after-requires
     gone-requires-2
-    add-j
+    after-requires-2
     add-at
     loop-less
     loop-again

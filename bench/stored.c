@@ -1,0 +1,176 @@
+// See stored.h. The scratch has a table of the parts in the order of their entries, and after it their lists: an item is
+// m in the high half and p in the low half of a word, and a list runs by falling m. m is the width in a stacked part's
+// list, and the height in all others.
+#include "stored.h"
+
+#include <stdbool.h>
+
+enum { PARTS = 127 };
+
+typedef struct {
+    uint32_t from, count, kind, gauges;
+} part;
+
+static inline part *table_of(uint32_t *scratch) { return (part *)scratch; }
+
+// An item read the other way: m and p change places.
+static inline uint32_t swapped(uint32_t w) { return w << 16 | w >> 16; }
+
+// The item at a place, as its list runs or turned.
+static inline uint32_t item(const uint32_t *at, bool across) { return across ? swapped(*at) : *at; }
+
+// ---- the lists
+
+// Stockmeyer's merge. It is made once for each way in which the two lists are read: a turned list from its end down.
+static inline __attribute__((always_inline)) size_t merge(const uint32_t *a, size_t length_a, bool across_a,
+                                                          const uint32_t *b, size_t length_b, bool across_b,
+                                                          uint32_t *to) {
+    const ptrdiff_t step_a = across_a ? -1 : 1, step_b = across_b ? -1 : 1;
+    const uint32_t *end_a = across_a ? a - 1 : a + length_a, *end_b = across_b ? b - 1 : b + length_b;
+    if (across_a) a += length_a - 1;
+    if (across_b) b += length_b - 1;
+    uint32_t *start = to, x = item(a, across_a), y = item(b, across_b);
+    for (;;) {
+        if (x >> 16 > y >> 16) {
+            *to++ = x + (y & 0xFFFF);
+            if ((a += step_a) == end_a) break;
+            x = item(a, across_a);
+        } else if (x >> 16 < y >> 16) {
+            *to++ = y + (x & 0xFFFF);
+            if ((b += step_b) == end_b) break;
+            y = item(b, across_b);
+        } else {
+            *to++ = x + (y & 0xFFFF);
+            a += step_a;
+            b += step_b;
+            if (a == end_a || b == end_b) break;
+            x = item(a, across_a);
+            y = item(b, across_b);
+        }
+    }
+    return to - start;
+}
+
+static size_t merge_lists(const uint32_t *a, size_t length_a, bool across_a, const uint32_t *b, size_t length_b,
+                          bool across_b, uint32_t *to) {
+    if (across_a) {
+        if (across_b) return merge(a, length_a, true, b, length_b, true, to);
+        return merge(a, length_a, true, b, length_b, false, to);
+    }
+    if (across_b) return merge(a, length_a, false, b, length_b, true, to);
+    return merge(a, length_a, false, b, length_b, false, to);
+}
+
+static void store_sizes(const uint8_t *sizes, size_t count, uint32_t *to) {
+    for (size_t i = 0; i < count; i++, sizes += 4) {
+        to[i] = (uint32_t)sizes[0] << 24 | (uint32_t)sizes[1] << 16 | (uint32_t)sizes[2] << 8 | sizes[3];
+    }
+}
+
+// Whether the list of a part of a kind runs the other way than a join, or than by height where the join is beside.
+static inline bool runs_across(uint32_t kind, uint32_t join) { return (kind == JOIN_STACKED) != (join == JOIN_STACKED); }
+
+// Stores the lists of all parts. Answers the number of the whole face.
+static size_t store_lists(bytes file, uint32_t *scratch) {
+    part *table = table_of(scratch);
+    size_t at = 7, p = 0;
+    uint32_t to = 4 * PARTS;
+    for (; at < file.length; p++) {
+        uint8_t kind = file.bytes[at++];
+        if (kind == GAUGE) {
+            uint32_t count = file.bytes[at++];
+            store_sizes(file.bytes + at, count, scratch + to);
+            table[p] = (part){to, count, kind, 1};
+            at += 4 * count;
+        } else {
+            const part *newer = &table[p - 1], *older = &table[p - 2 * newer->gauges];
+            uint32_t count = merge_lists(scratch + older->from, older->count, runs_across(older->kind, kind),
+                                         scratch + newer->from, newer->count, runs_across(newer->kind, kind),
+                                         scratch + to);
+            table[p] = (part){to, count, kind, older->gauges + newer->gauges};
+        }
+        to += table[p].count;
+    }
+    return p - 1;
+}
+
+// ---- the layout
+
+// The item of least area inside the opening, of equal areas the narrowest, as height and width packed; 0 for none.
+static uint32_t pick(const uint32_t *list, size_t count, bool across, uint32_t height, uint32_t width) {
+    uint64_t best = UINT64_MAX;
+    uint32_t found = 0;
+    for (size_t k = 0; k < count; k++) {
+        uint32_t z = across ? swapped(list[k]) : list[k];
+        uint32_t h = z >> 16, w = z & 0xFFFF;
+        if (h > height || w > width) continue;
+        uint64_t rank = (uint64_t)(h * w) << 16 | w;
+        if (rank < best) {
+            best = rank;
+            found = z;
+        }
+    }
+    return found;
+}
+
+// The first item of a list by falling m whose m is at most the limit. There is such an item.
+static uint32_t take(const uint32_t *scratch, const part *p, uint32_t join, uint32_t limit) {
+    const uint32_t *list = scratch + p->from;
+    size_t low = 0, high = p->count - 1;
+    if (runs_across(p->kind, join)) {
+        // Read turned: p rises along the list, and the last item whose p is at most the limit is wanted.
+        while (low < high) {
+            size_t mid = low + (high - low + 1) / 2;
+            if ((list[mid] & 0xFFFF) <= limit) low = mid;
+            else high = mid - 1;
+        }
+        return swapped(list[low]);
+    }
+    while (low < high) {
+        size_t mid = low + (high - low) / 2;
+        if (list[mid] >> 16 <= limit) high = mid;
+        else low = mid + 1;
+    }
+    return list[low];
+}
+
+// The number of the size of a gauge that has this height.
+static uint32_t size_number(const uint32_t *list, uint32_t height) {
+    uint32_t k = 0;
+    while (list[k] >> 16 != height) k++;
+    return k + 1;
+}
+
+// Lays a part out that takes an item, given as height and width packed, with its lower left corner at x, y.
+static void lay(const uint32_t *scratch, const part *p, uint32_t z, uint32_t x, uint32_t y, uint32_t *out) {
+    if (p->kind == GAUGE) {
+        out[0] = size_number(scratch + p->from, z >> 16);
+        out[1] = x;
+        out[2] = y;
+        out[3] = z & 0xFFFF;
+        out[4] = z >> 16;
+        return;
+    }
+    const part *newer = p - 1, *older = p - 2 * newer->gauges;
+    if (p->kind == JOIN_STACKED) {
+        uint32_t limit = z & 0xFFFF;
+        uint32_t a = take(scratch, older, JOIN_STACKED, limit), b = take(scratch, newer, JOIN_STACKED, limit);
+        lay(scratch, older, swapped(a), x, y, out);
+        lay(scratch, newer, swapped(b), x, y + (a & 0xFFFF), out + 5 * older->gauges);
+    } else {
+        uint32_t limit = z >> 16;
+        uint32_t a = take(scratch, older, BESIDE, limit), b = take(scratch, newer, BESIDE, limit);
+        lay(scratch, older, a, x, y, out);
+        lay(scratch, newer, b, x + (a & 0xFFFF), y, out + 5 * older->gauges);
+    }
+}
+
+fitted stored_fit(bytes file, bytes levels, uint32_t height, uint32_t width, words arena, words scratch, words output) {
+    unsigned number = fit_number(file, levels, height, width, arena, scratch, output);
+    if (number != 0) return (fitted){number, 0, 0, 0, 0};
+    const part *root = table_of(scratch.words) + store_lists(file, scratch.words);
+    uint32_t z = pick(scratch.words + root->from, root->count, root->kind == JOIN_STACKED, height, width);
+    if (z == 0) return (fitted){19, 0, 0, 0, 0};
+    lay(scratch.words, root, z, 0, 0, output.words);
+    return (fitted){0, z >> 16, z & 0xFFFF, (z >> 16) * (z & 0xFFFF), root->count};
+}
