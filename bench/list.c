@@ -45,10 +45,12 @@ enum { PAINTED = 65536, PAINT = 0xA5 };
 static __attribute__((noinline)) void paint(void) {
     volatile uint8_t room[PAINTED];
     for (size_t i = 0; i < PAINTED; i++) room[i] = PAINT;
+    __asm__ volatile("" : : "r"(room) : "memory");
 }
 
 static __attribute__((noinline)) size_t touched(void) {
     volatile uint8_t room[PAINTED];
+    __asm__ volatile("" : : "r"(room) : "memory");
     size_t left = 0;
     while (left < PAINTED && room[left] == PAINT) left++;
     return PAINTED - left;

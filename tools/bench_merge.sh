@@ -16,7 +16,7 @@ trap 'rm -rf "$work"' EXIT
 
 # --- the proved merge as a static library
 mkdir -p "$work/crates/bench_merge/src" "$work/target"
-for crate in checks slicing arena merging; do
+for crate in checks slicing facefile arena merging; do
     cp -R "$root/crates/$crate" "$work/crates/$crate"
     grep "^$crate:" "$root/crates.txt" >>"$work/crates.txt"
 done

@@ -1,4 +1,4 @@
--- What the pick of an item answers, and what it is asked of. No public contract cites it.
+-- An opening by its height and width, which contracts cite; and what the pick of an item answers, which no public contract cites.
 use mathlib.Core.Path.{_≡_}
 use mathlib.Core.Bool.{Bool, true, false}
 use mathlib.Core.List.{List}

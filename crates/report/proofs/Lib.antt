@@ -6,3 +6,7 @@ pub mod LineLaws
 pub mod Rows
 pub mod Faces
 pub mod Example
+pub mod Levelling
+pub mod Telling
+pub mod Widest
+pub mod Whole

@@ -1,7 +1,9 @@
 // The text that the program `faces` prints, as bytes in a lent buffer.
+mod face;
 mod lines;
 mod put;
 
+pub use face::faces_text;
 pub use put::write_bytes;
 pub use put::write_number;
 ghost use mathlib.Core.Path.{_≡_};

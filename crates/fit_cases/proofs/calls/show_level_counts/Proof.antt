@@ -3,7 +3,6 @@ use native.Mathlib.Omega.{arith}
 use mathlib.Core.Path.{sym}
 use lib.Seq.{length-take-le}
 use borrow.Author.Needs.{needs}
-use borrow.Author.Needs.{needs}
 use Rattle.fit_cases.proofs.calls.show_level_counts.Statement.{statement}
 use Rattle.fit_cases.proofs.calls.show_level_counts.Tie as tie
 

@@ -1,0 +1,160 @@
+-- The text that is rendered of what the list call and the fit call leave is the one of the face, and of a refused file the one of its check.
+-- The words of the list and of the layout stand at the starts of the outputs, and the answer of the fit says which of the two texts is due.
+use mathlib.Core.Path.{_≡_, refl, sym, ap, subst, _∙_}
+use mathlib.Core.List.{List, _++_}
+use Prim.Native.Nat.{ℕ, _*_, _≤_, _<_}
+use native.Mathlib.Omega.{arith}
+use lib.ListN.{length, take, drop, length-take}
+use lib.Seq.{take-append-seam}
+use Rattle.checks.specs.Answer.{Answer, taken}
+use Rattle.slicing.specs.Item.{Item}
+use Rattle.slicing.specs.Tree.{Tree, gaugeCount}
+use Rattle.slicing.specs.Shapes.{shapes}
+use Rattle.slicing.specs.Fit.{Pick, nothing, picked, smallest, place, words}
+use Rattle.slicing.proofs.Placing.{words-length}
+use Rattle.slicing.proofs.ShapeLaws.{shapes-short}
+use Rattle.facefile.specs.declared.Face.{Face}
+use Rattle.facefile.specs.Format.{faceOf}
+use Rattle.facefile.specs.Summary.{summary}
+use Rattle.facefile.proofs.Answered.{answer-taken, answer-refused}
+use Rattle.facefile.proofs.Taken.{face-taken}
+use Rattle.shapes.specs.declared.Listed.{Listed}
+use Rattle.shapes.specs.Listing.{listWords, writtenOver, listCall, listed, listOutput}
+use Rattle.shapes.proofs.WordLaws.{words-length as list-words-length}
+use Rattle.fit.specs.declared.Fitted.{Fitted}
+use Rattle.fit.specs.Fitting.{fitChecks, faceFound, faceWords, fitted, fitOutput}
+use Rattle.report.specs.Text.{facesText, refusedText}
+use Rattle.report.specs.Printing.{Printed, textBytes}
+use Rattle.report.specs.Faces.{widest, pickPrinted, answerPrinted, facesPrinted, FacesText}
+use Rattle.report.specs.Telling.{Tallied, Levelled, Worked}
+use Rattle.report.proofs.Levelling.{sizes-most, list-taken, fit-taken}
+
+other-text : (a b old new : List ℕ) (r : ℕ) → a ≡ b → Printed a old new r → Printed b old new r
+other-text a b old new r e p = subst (λ (x : List ℕ). Printed x old new r) e p
+
+-- A face that is not placed.
+no-text : (t : Tree) (p : Pick) (face : Fitted) → face ≡ faceFound t p → (face .number ≡ 0 → ⊥) → refusedText (face .number) ≡ pickPrinted t p
+no-text t nothing face e other = ap (λ (f : Fitted). refusedText (f .number)) e
+no-text t (picked z) face e other = absurd (other (ap (λ (f : Fitted). f .number) e))
+
+-- One that is, by what `render` promises.
+placed : (t : Tree) (p : Pick) (face : Fitted) (items layout old new : List ℕ) (r : ℕ) → face ≡ faceFound t p → face .number ≡ 0 → items ≡ listWords (shapes 0 t) → ((z : Item) → p ≡ picked z → layout ≡ words t (place 0 t z 0 0)) → ((l : List Item) (z : Item) → items ≡ listWords l → face .height ≡ z .m → face .width ≡ z .p → face .area ≡ z .m * z .p → Printed (facesText l z layout) old new r) → Printed (pickPrinted t p) old new r
+placed t nothing face items layout old new r e zero i l render =
+    let n = ap (λ (f : Fitted). f .number) e in absurd (omega arith)
+placed t (picked z) face items layout old new r e zero i l render =
+    subst (λ (w : List ℕ). Printed (facesText (shapes 0 t) z w) old new r) (l z refl)
+    (render (shapes 0 t) z i (ap (λ (f : Fitted). f .height) e) (ap (λ (f : Fitted). f .width) e) (ap (λ (f : Fitted). f .area) e))
+
+module _ (face : Fitted) (count : ℕ) (items : List ℕ) (gauges : ℕ) (layout old new : List ℕ) (r : ℕ) where
+  pub told-no : (face .number ≡ 0 → ⊥) → Printed (refusedText (face .number)) old new r → (t : Tree) → Worked t face count items gauges layout → Printed (pickPrinted t (smallest widest (shapes 0 t))) old new r
+  told-no other p t w =
+      other-text (refusedText (face .number)) (pickPrinted t (smallest widest (shapes 0 t))) old new r (no-text t (smallest widest (shapes 0 t)) face (w .fitted-is) other) p
+
+  pub told-yes : face .number ≡ 0 → ((l : List Item) (z : Item) → take (2 * count) items ≡ listWords l → face .height ≡ z .m → face .width ≡ z .p → face .area ≡ z .m * z .p → Printed (facesText l z (take (5 * gauges) layout)) old new r) → (t : Tree) → Worked t face count items gauges layout → Printed (pickPrinted t (smallest widest (shapes 0 t))) old new r
+  told-yes zero render t w =
+      placed t (smallest widest (shapes 0 t)) face (take (2 * count) items) (take (5 * gauges) layout) old new r (w .fitted-is) zero (w .listed) (w .laid) render
+
+-- What stands at the start of an output.
+starts : (k : ℕ) (words old new : List ℕ) → new ≡ writtenOver words old → k ≡ length words → take k new ≡ words
+unfolding writtenOver
+starts k words old new e n = ap (λ (l : List ℕ). take k l) e ∙ ap (λ (i : ℕ). take i (words ++ drop (length words) old)) n ∙ take-append-seam words (drop (length words) old)
+
+laid-by : (t : Tree) (p : Pick) (gauges : ℕ) (old new : List ℕ) → gauges ≡ gaugeCount t → new ≡ faceWords t p old → (z : Item) → p ≡ picked z → take (5 * gauges) new ≡ words t (place 0 t z 0 0)
+laid-by t p gauges old new g e z is =
+    let long = words-length t (place 0 t z 0 0) in
+    starts (5 * gauges) (words t (place 0 t z 0 0)) old new (e ∙ ap (λ (x : Pick). faceWords t x old) is) (omega arith)
+
+module _ (file levels : List ℕ) (gauges : ℕ) (arena scratch items arena' scratch' layout items' layout' : List ℕ) (l : Listed) (face : Fitted) where
+  -- Where the list call and then the fit call were lent enough.
+  pub record Ran : Type 0 where
+    pub ready : Levelled file levels gauges
+    pub arena-long : 16_384 ≤ length arena
+    pub scratch-long : 16_384 ≤ length scratch
+    pub items-long : 898 ≤ length items
+    pub list-is : l ≡ listed (listCall file levels arena scratch items)
+    pub items-is : items' ≡ listOutput (listCall file levels arena scratch items) items
+    pub arena-kept : length arena' ≡ length arena
+    pub scratch-kept : length scratch' ≡ length scratch
+    pub layout-long : 320 ≤ length layout
+    pub fit-is : face ≡ fitted (fitChecks file levels widest arena' scratch' layout) widest
+    pub layout-is : layout' ≡ fitOutput (fitChecks file levels widest arena' scratch' layout) widest layout
+
+  module _ (c : Ran) where
+    abbrev t : Tree
+    t = c .ready .tallied .tree
+
+    list-call : listCall file levels arena scratch items ≡ taken t
+    list-call = list-taken file levels arena scratch items gauges (c .ready) (c .arena-long) (c .scratch-long) (c .items-long)
+
+    fit-call : fitChecks file levels widest arena' scratch' layout ≡ taken t
+    fit-call =
+        let arena-long = c .arena-long in
+        let scratch-long = c .scratch-long in
+        fit-taken file levels arena' scratch' layout gauges (c .ready) (omega (arith, c .arena-kept)) (omega (arith, c .scratch-kept)) (c .layout-long)
+
+    count-is : l .count ≡ length (shapes 0 t)
+    count-is = ap (λ (x : Listed). x .count) (c .list-is ∙ ap listed list-call)
+
+    -- What `told_text` asks.
+    pub told-asked : (text : List ℕ) → 898 ≡ length items' → 320 ≡ length layout' → textBytes ≤ length text → ((2 * l .count ≤ length items') × (length items' ≤ 2 * 449)) × ((5 * gauges ≤ length layout') × (length layout' ≤ 5 * 64) × (textBytes ≤ length text))
+    told-asked text items-same layout-same room =
+        let most = sizes-most file t (c .ready .tallied .face) in
+        let short = shapes-short 0 t (face-taken file t (c .ready .tallied .face) .good) in
+        let n = count-is in
+        let few = face-taken file t (c .ready .tallied .face) .few in
+        let g = c .ready .tallied .gauges-is in
+        ((omega arith, omega arith), (omega arith, omega arith, room))
+
+    pub worked : Worked t face (l .count) items' gauges layout'
+    worked =
+        record {
+          fitted-is = c .fit-is ∙ ap (λ (a : Answer Tree). fitted a widest) fit-call;
+          listed =
+              let long = list-words-length (shapes 0 t) in
+              let n = count-is in
+              starts (2 * l .count) (listWords (shapes 0 t)) items items' (c .items-is ∙ ap (λ (a : Answer Tree). listOutput a items) list-call) (omega arith);
+          laid = laid-by t (smallest widest (shapes 0 t)) gauges layout layout' (c .ready .tallied .gauges-is) (c .layout-is ∙ ap (λ (a : Answer Tree). fitOutput a widest layout) fit-call);
+        }
+
+    pub placed-text : (old new : List ℕ) (r : ℕ) → ((u : Tree) → Worked u face (l .count) items' gauges layout' → Printed (pickPrinted u (smallest widest (shapes 0 u))) old new r) → Printed (facesPrinted file) old new r
+    unfolding facesPrinted
+    placed-text old new r p =
+        other-text (pickPrinted t (smallest widest (shapes 0 t))) (facesPrinted file) old new r (sym (ap answerPrinted (c .ready .tallied .face))) (p t worked)
+
+-- The whole file.
+module _ (file old new : List ℕ) (r : ℕ) where
+  pub text-short : length old < textBytes → r ≡ 0 → new ≡ old → FacesText file old new r
+  text-short less e same = record { long = λ enough. absurd (omega arith); short = λ _. (e, same) }
+
+  pub text-long : textBytes ≤ length old → Printed (facesPrinted file) old new r → FacesText file old new r
+  text-long enough p = record { long = λ _. p; short = λ less. absurd (omega arith) }
+
+module _ (file : List ℕ) (f : Face) (read : f ≡ summary (faceOf file)) where
+  pub text-refused : (f .number ≡ 0 → ⊥) → (old new : List ℕ) (r : ℕ) → Printed (refusedText (f .number)) old new r → Printed (facesPrinted file) old new r
+  unfolding facesPrinted
+  text-refused other old new r p =
+      let bad = answer-refused f (faceOf file) read other in
+      other-text (refusedText (f .number)) (facesPrinted file) old new r (ap refusedText (bad .2) ∙ sym (ap answerPrinted (bad .1))) p
+
+  tallied : f .number ≡ 0 → Tallied file (f .gauges) (f .sizes)
+  tallied zero =
+      let face = answer-taken f (faceOf file) read zero in
+      record { tree = face .tree; face = face .face; gauges-is = face .gauges; sizes-is = face .sizes }
+
+  -- The levels buffer is lent as many bytes.
+  pub tallied-part : f .number ≡ 0 → (n : ℕ) → f .sizes ≡ n → Tallied file (f .gauges) n
+  tallied-part zero n e = subst (λ (x : ℕ). Tallied file (f .gauges) x) e (tallied zero)
+
+  pub sizes-few : f .number ≡ 0 → f .sizes ≤ 512
+  sizes-few zero =
+      let k = tallied zero in
+      let most = face-taken file (k .tree) (k .face) .most in
+      let n = k .sizes-is in
+      omega arith
+
+-- As many words or bytes as a part is to have.
+pub part-counted : (k : ℕ) (l : List ℕ) → k ≤ length l → k ≡ length (take k l)
+part-counted k l h = omega (arith, length-take k l)
+
+pub part-few : (k most : ℕ) (l : List ℕ) → length l ≤ most → length (take k l) ≤ most
+part-few k most l h = omega (arith, length-take k l)

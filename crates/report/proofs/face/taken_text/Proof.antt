@@ -1,0 +1,50 @@
+-- `report::face::taken_text` meets its contract.
+-- The levels that are filled in are in range, by `levelled`.
+use borrow.Author.Needs.{needs}
+use Rattle.report.proofs.Levelling.{levelled}
+use Rattle.report.proofs.face.taken_text.Statement.{statement}
+use Rattle.report.proofs.face.taken_text.Tie as tie
+
+words-room-requires : tie.Need-words-room-requires
+words-room-requires c κs = search needs
+
+words-room-requires-2 : tie.Need-words-room-requires-2
+words-room-requires-2 c κs = search needs
+
+fill-requires : tie.Need-fill-requires
+fill-requires c κs = search needs
+
+slice-aggregate-placed-text : tie.Need-slice-aggregate-placed-text
+slice-aggregate-placed-text c = search needs
+
+slice-aggregate-placed-text-2 : tie.Need-slice-aggregate-placed-text-2
+slice-aggregate-placed-text-2 c = search needs
+
+placed-text-requires : tie.Need-placed-text-requires
+placed-text-requires c κs = (
+  levelled (c .before .before .before .before .before .before .before .before .before .before .before .before .before .args .file .now) (c .before .before .before .before .before .before .before .before .before .before .before .before .before .args .levels .now) _ (c .before .before .before .before .before .before .before .before .before .before .before .before .before .args .gauges) (c .before .before .before .before .before .before .before .before .before .before .before .before .before .pre .0) (c .before .before .before .before .before .before .fill .ensures .1),
+  search needs,
+)
+
+same-length : tie.Need-same-length
+same-length c = search needs
+
+same-length-2 : tie.Need-same-length-2
+same-length-2 c = search needs
+
+returns : tie.Need-returns
+returns c = search needs
+
+pub taken-text-spec : {M : Type 1} → statement M
+taken-text-spec =
+    tie.close
+    (tie.spec
+    words-room-requires
+    words-room-requires-2
+    fill-requires
+    slice-aggregate-placed-text
+    slice-aggregate-placed-text-2
+    placed-text-requires
+    same-length
+    same-length-2
+    returns)

@@ -1,0 +1,37 @@
+-- Document 01: "A program `faces` reads a file from standard input, fits it to 64,000 by 64,000 and prints as below, or one line such as `refused 4`." What it prints for a file's bytes, and what the function that makes that text asks and leaves.
+use mathlib.Core.Path.{_≡_}
+use mathlib.Core.List.{List}
+use Prim.Native.Nat.{ℕ, _≤_, _<_}
+use lib.ListN.{length}
+use Rattle.checks.specs.Check.{Fits, numberOf}
+use Rattle.checks.specs.Answer.{Answer, refused, taken}
+use Rattle.slicing.specs.Tree.{Tree}
+use Rattle.slicing.specs.Shapes.{shapes}
+use Rattle.slicing.specs.Layout.{Outline}
+use Rattle.slicing.specs.Fit.{Pick, nothing, picked, smallest, place, words}
+use Rattle.facefile.specs.Format.{faceOf}
+use Rattle.fit.specs.Picking.{outline}
+use Rattle.report.specs.Text.{facesText, refusedText}
+use Rattle.report.specs.Printing.{Printed, textBytes}
+
+-- The opening, 64,000 by 64,000.
+abbrev pub widest : Outline
+widest = outline 64_000 64_000
+
+-- The text of a face by what is picked of it: the item list, the item, and its layout. (Something is always picked, by `something-fits` of proofs/Widest.antt.)
+abbrev pub pickPrinted : Tree → Pick → List ℕ
+pickPrinted t nothing = refusedText (numberOf Fits)
+pickPrinted t (picked z) = facesText (shapes 0 t) z (words t (place 0 t z 0 0))
+
+abbrev pub answerPrinted : Answer Tree → List ℕ
+answerPrinted (refused c) = refusedText (numberOf c)
+answerPrinted (taken t) = pickPrinted t (smallest widest (shapes 0 t))
+
+-- What `faces` prints for a file of these bytes.
+unfoldable pub facesPrinted : List ℕ → List ℕ
+facesPrinted file = answerPrinted (faceOf file)
+
+-- The text of the file stands in a buffer with room for every text, and the answer is its length. A shorter buffer is as it was, and the answer is 0.
+pub record FacesText (file old new : List ℕ) (r : ℕ) : Type 0 where
+  pub long : textBytes ≤ length old → Printed (facesPrinted file) old new r
+  pub short : length old < textBytes → (r ≡ 0) × (new ≡ old)

@@ -1,0 +1,126 @@
+// The text that `faces` prints for a file, from its bytes.
+ghost use mathlib.Core.Path.{_≡_};
+ghost use Prim.Native.Nat.{_*_, _≤_};
+ghost use lib.ListN.{length};
+ghost use Rattle.slicing.specs.Tree.{Tree};
+ghost use Rattle.slicing.specs.Shapes.{shapes as shapesOf};
+ghost use Rattle.slicing.specs.Fit.{smallest};
+ghost use Rattle.report.specs.Printing.{Printed, Counted, textBytes};
+ghost use Rattle.report.specs.Faces.{widest, pickPrinted, facesPrinted, FacesText};
+ghost use Rattle.report.specs.Telling.{Tallied, Levelled, Worked};
+use crate::TEXT;
+use crate::render;
+use crate::render_refused;
+use fit::Fitted;
+
+// The height and the width of the opening.
+const OPENING: u32 = 64_000;
+
+// The levels of at most 512 sizes. The `ensures` here and below give only the lengths, which lending needs.
+fn levels_room() -> [u8; 512]
+    ensures { λ r. ⌜ 512 ≡ length r ⌝ }
+{
+    [0; 512]
+}
+
+// An arena or a scratch.
+fn words_room() -> [u32; 16_384]
+    ensures { λ r. ⌜ 16384 ≡ length r ⌝ }
+{
+    [0; 16_384]
+}
+
+// Two words for each of at most 449 items.
+fn items_room() -> [u32; 898]
+    ensures { λ r. ⌜ 898 ≡ length r ⌝ }
+{
+    [0; 898]
+}
+
+// Five words for each of at most 64 gauges.
+fn layout_room() -> [u32; 320]
+    ensures { λ r. ⌜ 320 ≡ length r ⌝ }
+{
+    [0; 320]
+}
+
+// The text of a face by what the fit call answered, from the starts of the list call's and the fit call's outputs.
+fn told_text(
+    face: Fitted,
+    count: u32,
+    items: &[u32],
+    gauges: usize,
+    layout: &[u32],
+    text: &mut [u8],
+) -> usize
+    requires { ⌜ (2 * count ≤ length (now items)) × (length (now items) ≤ 2 * 449) ⌝ }
+    requires { ⌜ (5 * gauges ≤ length (now layout)) × (length (now layout) ≤ 5 * 64) × (textBytes ≤ length (now text)) ⌝ }
+    ensures { λ r. ⌜ ((t : Tree) → Worked t face count (now (items .entry)) gauges (now (layout .entry)) → Printed (pickPrinted t (smallest widest (shapesOf 0 t))) (now (text .entry)) (now (text .exit)) r) ⌝ }
+    ensures { λ r. ⌜ Counted textBytes (now (text .exit)) r ⌝ }
+{
+    if face.number != checks::TAKEN {
+        return render_refused(face.number, text);
+    }
+    let listed_words = 2 * (count as usize);
+    let placed_words = 5 * gauges;
+    render(
+        &items[..listed_words],
+        face.height,
+        face.width,
+        face.area,
+        &layout[..placed_words],
+        text,
+    )
+}
+
+// The text of a face whose sizes have levels, by way of an arena and a scratch.
+fn placed_text(
+    file: &[u8],
+    levels: &[u8],
+    gauges: usize,
+    arena: &mut [u32],
+    scratch: &mut [u32],
+    text: &mut [u8],
+) -> usize
+    requires { ⌜ Levelled (now file) (now levels) gauges ⌝ }
+    requires { ⌜ (16384 ≤ length (now arena)) × (16384 ≤ length (now scratch)) × (textBytes ≤ length (now text)) ⌝ }
+    ensures { λ r. ⌜ Printed (facesPrinted (now (file .entry))) (now (text .entry)) (now (text .exit)) r ⌝ }
+    ensures { λ r. ⌜ Counted textBytes (now (text .exit)) r ⌝ }
+{
+    let mut items = items_room();
+    let mut layout = layout_room();
+    let listed = shapes::list(file, levels, arena, scratch, &mut items);
+    let face = fit::fit(file, levels, OPENING, OPENING, arena, scratch, &mut layout);
+    told_text(face, listed.count, &items, gauges, &layout, text)
+}
+
+// The text of a taken face, by way of a levels buffer of as many bytes as it has sizes.
+fn taken_text(file: &[u8], gauges: usize, levels: &mut [u8], text: &mut [u8]) -> usize
+    requires { ⌜ Tallied (now file) gauges (length (now levels)) ⌝ }
+    requires { ⌜ textBytes ≤ length (now text) ⌝ }
+    ensures { λ r. ⌜ Printed (facesPrinted (now (file .entry))) (now (text .entry)) (now (text .exit)) r ⌝ }
+    ensures { λ r. ⌜ Counted textBytes (now (text .exit)) r ⌝ }
+{
+    let mut arena = words_room();
+    let mut scratch = words_room();
+    levels::fill(file, levels);
+    placed_text(file, levels, gauges, &mut arena, &mut scratch, text)
+}
+
+// The text that `faces` prints for a file of these bytes, in a buffer with room for every text. Answers its length; 0,
+// with the buffer as it was, where there is less room.
+pub fn faces_text(file: &[u8], text: &mut [u8]) -> usize
+    ensures { λ r. ⌜ FacesText (now (file .entry)) (now (text .entry)) (now (text .exit)) r ⌝ }
+    ensures { λ r. ⌜ Counted textBytes (now (text .exit)) r ⌝ }
+{
+    if text.len() < TEXT {
+        return 0;
+    }
+    let face = facefile::read(file);
+    if face.number != checks::TAKEN {
+        return render_refused(face.number, text);
+    }
+    let mut levels = levels_room();
+    let sizes = face.sizes;
+    taken_text(file, face.gauges, &mut levels[..sizes], text)
+}
