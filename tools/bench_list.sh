@@ -6,7 +6,8 @@
 #
 # It needs rt, gcc, valgrind and python3. The proved call is exported to C by a small crate that is made in a temporary
 # folder beside copies of the repository's libraries; what target/ has proved is not proved again. callgrind counts what
-# is executed inside the list function alone. Last come the bytes of stack that a call touched. LIST_OBJECT=FILE names an object file that has rattle_list already.
+# is executed inside the list function alone. Last come the bytes of stack that a call touched (LD_BIND_NOW: the linker's
+# own work is then done before). LIST_OBJECT=FILE names an object file that has rattle_list already.
 set -eu
 root=$(cd "$(dirname "$0")/.." && pwd)
 data=$root/crates/list_cases/data
@@ -96,4 +97,4 @@ done
 
 echo "Bytes of stack that one call touched:"
 echo
-for face in $faces; do echo "| $face | $("$work/list" stack "$data/$face.fce" "$work/$face.own") |"; done
+for face in $faces; do echo "| $face | $(LD_BIND_NOW=1 "$work/list" stack "$data/$face.fce" "$work/$face.own") |"; done
