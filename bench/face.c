@@ -67,7 +67,9 @@ static unsigned levels_number(bytes levels, const cursor *c) {
     return 0;
 }
 
-unsigned face_number(bytes file, bytes levels, words arena, words scratch, words output) {
+// The two functions below begin alike. With one function for that beginning gcc's code took 1,200 instructions more.
+
+unsigned list_number(bytes file, bytes levels, words arena, words scratch, words output) {
     cursor c = {0, 0, 0, 0};
     unsigned number = file_number(file, &c);
     if (number == 0) number = levels_number(levels, &c);

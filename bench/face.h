@@ -1,7 +1,9 @@
-// Document 01's checks of the list and fit calls in C, for the programs that are measured beside the Rattle code.
+// The face file in C, and document 01's checks of the list and fit calls, for the programs that are measured beside the
+// Rattle code.
 #ifndef FACE_H
 #define FACE_H
 
+#include <stdbool.h>
 #include <stddef.h>
 #include <stdint.h>
 
@@ -17,8 +19,14 @@ typedef struct {
     size_t length;
 } words;
 
+// Whether the list of a part of a kind runs the other way than that of a join: a stacked part's list runs by width, and
+// all others, gauges too, by height.
+static inline bool runs_across(uint32_t part, uint32_t join) {
+    return (part == JOIN_STACKED) != (join == JOIN_STACKED);
+}
+
 // Checks 1 to 15, 17 and 18 of the list call: the number of the first that fails, or 0.
-unsigned face_number(bytes file, bytes levels, words arena, words scratch, words output);
+unsigned list_number(bytes file, bytes levels, words arena, words scratch, words output);
 
 // Checks 1 to 18 of the fit call.
 unsigned fit_number(bytes file, bytes levels, uint32_t height, uint32_t width, words arena, words scratch, words output);

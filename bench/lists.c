@@ -4,9 +4,6 @@
 #include "lazy.h"
 #include "plain.h"
 
-// Whether a part of a kind runs the other way than a join: stacked parts run by width, all others by height.
-static bool runs_across(uint8_t part, uint8_t join) { return (part == JOIN_STACKED) != (join == JOIN_STACKED); }
-
 // ---- lazy lists, with the steps of crates/parts and crates/shapes
 
 enum { FIRST = 513, OLDER_TURNED = 577, NEWER_TURNED = 578 };
@@ -51,7 +48,7 @@ static uint8_t lazy_build(bytes file, bytes levels, uint32_t *arena) {
 static void turn_pairs(uint32_t *pairs, size_t count) { plain_turn((item *)pairs, count); }
 
 size_t lazy_list(bytes file, bytes levels, words arena, words scratch, words output) {
-    if (face_number(file, levels, arena, scratch, output) != 0) return 0;
+    if (list_number(file, levels, arena, scratch, output) != 0) return 0;
     uint8_t kind = lazy_build(file, levels, arena.words);
     size_t count = lazy_items(arena.words, 0, output.words);
     if (kind == JOIN_STACKED) turn_pairs(output.words, count);
@@ -103,7 +100,7 @@ static part plain_build(bytes file) {
 }
 
 size_t plain_list(bytes file, bytes levels, words arena, words scratch, words output) {
-    if (face_number(file, levels, arena, scratch, output) != 0) return 0;
+    if (list_number(file, levels, arena, scratch, output) != 0) return 0;
     part root = plain_build(file);
     if (root.kind == JOIN_STACKED) plain_turn(root.items, root.length);
     for (size_t i = 0; i < root.length; i++) {

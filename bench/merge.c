@@ -1,23 +1,21 @@
 // One item is merged into a list of k records, at every place where its m can fall.
 //
-//     merge rattle|lazy|plain older|newer gap|tie K
+//     merge older|newer gap|tie K
 //
 // The list's records are 1 to K with levels one in four: level 1 plus the times that 4 divides the record number, cut
 // to 8. The item is the list of the older or of the newer part, and its m falls in a gap (above the first record,
-// between two, or below the last) or on the m of a record. Each merge starts from the same freshly made arena and its
-// result is held against the plain one. The number of merges is printed; the instructions inside the merge function
-// alone are for callgrind to count.
+// between two, or below the last) or on the m of a record. Each merge is made by each program that is measured, from
+// the same freshly made arena, and held against the plain one. The number of merges is printed; the instructions inside
+// a function are for callgrind to count.
 #include <stdio.h>
 #include <stdlib.h>
 #include <string.h>
 
 #include "lazy.h"
 #include "plain.h"
+#include "rattle.h"
 
 enum { LIST = 513, ITEM = 514, RESULT = 0 };
-
-// A slice is lent to Rattle as its pointer and its length.
-void rattle_merge(uint32_t *arena, size_t words, size_t older, size_t newer, size_t result);
 
 static uint32_t fresh[WORDS], arena[WORDS], pairs[2 * 512];
 static item records[512], merged[512];
@@ -64,26 +62,24 @@ static void check(size_t expected) {
     }
 }
 
-static void merge_at(const char *engine, int is_older, size_t k, item one) {
+static void merge_all(bool is_older, size_t k, item one) {
     size_t older = is_older ? ITEM : LIST, newer = is_older ? LIST : ITEM;
     size_t expected = is_older ? plain_merge(&one, 1, records, k, merged) : plain_merge(records, k, &one, 1, merged);
-    if (strcmp(engine, "plain") == 0) return;
     make_arena(k, one);
-    if (strcmp(engine, "rattle") == 0) {
-        rattle_merge(arena, WORDS, older, newer, RESULT);
-    } else {
-        lazy_merge(arena, older, newer, RESULT);
-    }
+    lazy_merge(arena, older, newer, RESULT);
+    check(expected);
+    make_arena(k, one);
+    rattle_merge(arena, WORDS, older, newer, RESULT);
     check(expected);
 }
 
 int main(int argc, char **argv) {
-    if (argc != 5) return 2;
-    int is_older = strcmp(argv[2], "older") == 0, is_tie = strcmp(argv[3], "tie") == 0;
-    size_t k = (size_t)atoi(argv[4]), merges = 0;
+    if (argc != 4) return 2;
+    bool is_older = strcmp(argv[1], "older") == 0, is_tie = strcmp(argv[2], "tie") == 0;
+    size_t k = (size_t)atoi(argv[3]), merges = 0;
     make_list(k);
     for (size_t m = is_tie ? 2 : 1; m <= 2 * k + 1; m += 2) {
-        merge_at(argv[1], is_older, k, (item){(uint32_t)m, 7});
+        merge_all(is_older, k, (item){(uint32_t)m, 7});
         merges++;
     }
     printf("%zu\n", merges);

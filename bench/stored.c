@@ -3,8 +3,6 @@
 // list, and the height in all others.
 #include "stored.h"
 
-#include <stdbool.h>
-
 enum { PARTS = 127 };
 
 typedef struct {
@@ -66,9 +64,6 @@ static void store_sizes(const uint8_t *sizes, size_t count, uint32_t *to) {
         to[i] = (uint32_t)sizes[0] << 24 | (uint32_t)sizes[1] << 16 | (uint32_t)sizes[2] << 8 | sizes[3];
     }
 }
-
-// Whether the list of a part of a kind runs the other way than a join, or than by height where the join is beside.
-static inline bool runs_across(uint32_t kind, uint32_t join) { return (kind == JOIN_STACKED) != (join == JOIN_STACKED); }
 
 // Stores the lists of all parts. Answers the number of the whole face.
 static size_t store_lists(bytes file, uint32_t *scratch) {

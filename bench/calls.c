@@ -1,0 +1,98 @@
+// The list call and the fit call on one file, each once by each program that is measured.
+//
+//     calls FILE LEVELS
+//
+// LEVELS is a file of one byte a size. The opening is 64,000 by 64,000. The lists are held against that of plain
+// arrays, and the layout against that of the stored lists. Four numbers are printed: the items, the area, and the bytes
+// of stack that Rattle's list call and its fit call touched. The instructions inside a function are for callgrind to
+// count.
+#include <stdio.h>
+#include <stdlib.h>
+#include <string.h>
+
+#include "lazy.h"
+#include "lists.h"
+#include "rattle.h"
+#include "stored.h"
+
+enum { OPENING = 64000, PAIRS = 2 * 449, PLACES = 5 * 64 };
+
+static uint8_t file_room[4096], levels_room[512];
+static uint32_t arena_room[WORDS], scratch_room[WORDS];
+static words arena = {arena_room, WORDS}, scratch = {scratch_room, WORDS};
+
+static bytes read_file(const char *name, uint8_t *to, size_t room) {
+    FILE *f = fopen(name, "rb");
+    if (f == NULL) {
+        perror(name);
+        exit(1);
+    }
+    size_t length = fread(to, 1, room, f);
+    fclose(f);
+    return (bytes){to, length};
+}
+
+static void hold(bool as_expected, const char *what) {
+    if (as_expected) return;
+    fprintf(stderr, "%s is another one\n", what);
+    exit(1);
+}
+
+// ---- the stack: what lies below the caller is painted, a call is made, and what is painted no more was touched
+
+enum { PAINTED = 65536, PAINT = 0xA5 };
+
+static __attribute__((noinline)) void paint(void) {
+    volatile uint8_t room[PAINTED];
+    for (size_t i = 0; i < PAINTED; i++) room[i] = PAINT;
+    __asm__ volatile("" : : "r"(room) : "memory");
+}
+
+static __attribute__((noinline)) size_t touched(void) {
+    volatile uint8_t room[PAINTED];
+    __asm__ volatile("" : : "r"(room) : "memory");
+    size_t left = 0;
+    while (left < PAINTED && room[left] == PAINT) left++;
+    return PAINTED - left;
+}
+
+// ---- the calls
+
+// Answers with the stack that Rattle's call touched.
+static size_t lists(bytes file, bytes levels, size_t *items) {
+    static uint32_t plain[PAIRS], lazy[PAIRS], rattle[PAIRS];
+    *items = plain_list(file, levels, arena, scratch, (words){plain, PAIRS});
+    size_t lazy_count = lazy_list(file, levels, arena, scratch, (words){lazy, PAIRS});
+    paint();
+    size_t rattle_count = rattle_list(file.bytes, file.length, levels.bytes, levels.length, arena_room, WORDS,
+                                      scratch_room, WORDS, rattle, PAIRS);
+    size_t stack = touched();
+    hold(lazy_count == *items && memcmp(lazy, plain, sizeof plain) == 0, "the lazy list in C");
+    hold(rattle_count == *items && memcmp(rattle, plain, sizeof plain) == 0, "Rattle's list");
+    return stack;
+}
+
+// Answers with the stack that Rattle's call touched.
+static size_t fits(bytes file, bytes levels, uint32_t *area) {
+    static uint32_t stored[PLACES], rattle[PLACES];
+    fitted best = stored_fit(file, levels, OPENING, OPENING, arena, scratch, (words){stored, PLACES});
+    hold(best.number == 0, "the number of the fit call in C");
+    paint();
+    *area = rattle_fit(file.bytes, file.length, levels.bytes, levels.length, OPENING, OPENING, arena_room, WORDS,
+                       scratch_room, WORDS, rattle, PLACES);
+    size_t stack = touched();
+    hold(*area == best.area && memcmp(rattle, stored, sizeof stored) == 0, "Rattle's layout");
+    return stack;
+}
+
+int main(int argc, char **argv) {
+    if (argc != 3) return 2;
+    bytes file = read_file(argv[1], file_room, sizeof file_room);
+    bytes levels = read_file(argv[2], levels_room, sizeof levels_room);
+    size_t items;
+    uint32_t area;
+    size_t list_stack = lists(file, levels, &items), fit_stack = fits(file, levels, &area);
+    rattle_build(file.bytes, file.length, levels.bytes, levels.length, arena_room, WORDS);
+    printf("%zu %u %zu %zu\n", items, area, list_stack, fit_stack);
+    return 0;
+}

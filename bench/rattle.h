@@ -1,0 +1,24 @@
+// The proved calls, as rattle.rt.txt exports them. A slice is lent to Rattle as its pointer and its length.
+#ifndef RATTLE_H
+#define RATTLE_H
+
+#include <stddef.h>
+#include <stdint.h>
+
+void rattle_merge(uint32_t *arena, size_t arena_words, size_t older, size_t newer, size_t result);
+
+// Answers with the number of items.
+uint32_t rattle_list(const uint8_t *file, size_t file_bytes, const uint8_t *levels, size_t level_bytes, uint32_t *arena,
+                     size_t arena_words, uint32_t *scratch, size_t scratch_words, uint32_t *output,
+                     size_t output_words);
+
+// Answers with the area.
+uint32_t rattle_fit(const uint8_t *file, size_t file_bytes, const uint8_t *levels, size_t level_bytes, uint32_t height,
+                    uint32_t width, uint32_t *arena, size_t arena_words, uint32_t *scratch, size_t scratch_words,
+                    uint32_t *output, size_t output_words);
+
+// Answers with the kind of the face's last entry.
+uint8_t rattle_build(const uint8_t *file, size_t file_bytes, const uint8_t *levels, size_t level_bytes, uint32_t *arena,
+                     size_t arena_words);
+
+#endif
