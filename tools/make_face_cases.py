@@ -9,14 +9,12 @@ the question that decides it, and for a taken face its counts, D, E and the top 
 run on the same bytes, and the script stops where the model and the hand-written answer differ.
 """
 
-import pathlib
 import sys
 
 sys.dont_write_bytecode = True
 
 import face_model
-
-CRATE = pathlib.Path(__file__).resolve().parent.parent / "crates" / "face_cases"
+import stored_files
 
 # ---------------------------------------------------------------------------------------------------------------
 # Bytes
@@ -381,47 +379,23 @@ def taken_lines(case):
     )
 
 
-def disagreements(case):
-    """What the model says otherwise than the hand-written answer."""
-    number = face_model.number_of(case.file)
-    if number != case.number:
-        return [f"{case.name}: by hand {case.number}, by the model {number}"]
-    if case.counts is None:
-        return []
+def taken_faults(case):
+    """What the model says otherwise than the hand-written counts of a taken face."""
     face_read = face_model.read(case.file)
     joins = face_model.joins_above(face_read.tree)
     counts = (face_read.gauge_count(), face_read.size_count(), min(joins), max(joins), face_model.top_level(face_read))
-    if counts != case.counts:
-        return [f"{case.name}: by hand {case.counts}, by the model {counts}"]
-    return []
+    return [] if counts == case.counts else [f"{case.name}: by hand {case.counts}, by the model {counts}"]
+
+
+def case_lines(case):
+    return taken_lines(case) if case.counts else refused_lines(case)
 
 
 def main():
-    faults = [fault for case in CASES for fault in disagreements(case)]
-    names = [case.name for case in CASES]
-    faults += [f"{name}: two cases have this name" for name in sorted(set(names)) if names.count(name) > 1]
-    if faults:
-        sys.exit("\n".join(faults))
-
-    files = {CRATE / "data" / case.name: case.file for case in CASES}
-    lines = [line for case in CASES for line in (taken_lines(case) if case.counts else refused_lines(case))]
-    files[CRATE / "args"] = "".join(name + "\n" for name in names).encode()
-    files[CRATE / "stdout"] = "".join(line + "\n" for line in lines).encode()
-    old = [path for path in (CRATE / "data").glob("*") if path not in files]
-
-    if "--check" in sys.argv[1:]:
-        other = [path for path, content in files.items() if not path.is_file() or path.read_bytes() != content]
-        if other or old:
-            sys.exit("\n".join(f"{path}: not as this script writes it" for path in other + old))
-        print(f"{len(CASES)} cases: the files are as this script writes them")
-        return
-
-    (CRATE / "data").mkdir(parents=True, exist_ok=True)
-    for path in old:
-        path.unlink()
-    for path, content in files.items():
-        path.write_bytes(content)
-    print(f"{len(CASES)} cases written")
+    stored_files.stop_at(stored_files.faults_of(CASES, taken_faults))
+    lines = [line for case in CASES for line in case_lines(case)]
+    files = stored_files.of_data(stored_files.data_of(CASES), lines)
+    stored_files.Stored("face_cases", files, f"{len(CASES)} cases").write_or_check()
 
 
 if __name__ == "__main__":

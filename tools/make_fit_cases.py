@@ -12,7 +12,6 @@ where a face of few choices has a layout of another least area than the one that
 and, where the opening is small, over all places. What the program is to print comes from the model alone.
 """
 
-import pathlib
 import sys
 
 sys.dont_write_bytecode = True
@@ -21,10 +20,9 @@ import face_model
 import fit_model
 import list_model
 import make_list_cases
+import stored_files
 from make_face_cases import EXAMPLE, beside, face, gauge, stacked
 from make_list_cases import SHOWN, FEW, LONGER, WORDS, checksum, scattered
-
-CRATE = pathlib.Path(__file__).resolve().parent.parent / "crates" / "fit_cases"
 
 LARGEST = 64000
 
@@ -451,12 +449,7 @@ def least_faults(case, face_read, opening, fitted):
     ]
 
 
-def disagreements(case):
-    number = face_model.number_of(case.file)
-    if number != case.number:
-        return [f"{case.name}: by hand {case.number}, by the model {number}"]
-    if number != 0:
-        return []
+def taken_faults(case):
     face_read = face_model.read(case.file)
     faults = []
     for opening in openings(case):
@@ -478,33 +471,13 @@ def argument(case):
 
 
 def main():
-    faults = [fault for case in CASES for fault in disagreements(case)]
-    names = [case.name for case in CASES]
-    faults += [f"{name}: two cases have this name" for name in sorted(set(names)) if names.count(name) > 1]
-    faults += [f"{name}: no such case" for name in BY_HAND if name not in names]
-    if faults:
-        sys.exit("\n".join(faults))
-
-    files = {CRATE / "data" / case.name: case.file for case in CASES}
+    data = stored_files.data_of(CASES)
+    faults = stored_files.faults_of(CASES, taken_faults)
+    stored_files.stop_at(faults + [f"{name}: no such case" for name in BY_HAND if name not in data])
     lines = [line for case in CASES for line in case_lines(case)]
-    files[CRATE / "args"] = "".join(argument(case) + "\n" for case in CASES).encode()
-    files[CRATE / "stdout"] = "".join(line + "\n" for line in lines).encode()
-    old = [path for path in (CRATE / "data").glob("*") if path not in files]
-
-    if "--check" in sys.argv[1:]:
-        other = [path for path, content in files.items() if not path.is_file() or path.read_bytes() != content]
-        if other or old:
-            sys.exit("\n".join(f"{path}: not as this script writes it" for path in other + old))
-        print(f"{len(CASES)} cases: the files are as this script writes them")
-        return
-
-    (CRATE / "data").mkdir(parents=True, exist_ok=True)
-    for path in old:
-        path.unlink()
-    for path, content in files.items():
-        path.write_bytes(content)
+    files = stored_files.of_data(data, lines, [argument(case) for case in CASES])
     calls = sum(len(openings(case)) for case in CASES)
-    print(f"{len(CASES)} cases written, with {calls} openings")
+    stored_files.Stored("fit_cases", files, f"{len(CASES)} cases with {calls} openings").write_or_check()
 
 
 if __name__ == "__main__":

@@ -11,16 +11,14 @@ the model and the hand-written answer differ. It also stops where a face of few 
 that all its choices make. What the program is to print comes from the model alone.
 """
 
-import pathlib
 import sys
 
 sys.dont_write_bytecode = True
 
 import face_model
 import list_model
+import stored_files
 from make_face_cases import EXAMPLE, beside, face, gauge, header, stacked
-
-CRATE = pathlib.Path(__file__).resolve().parent.parent / "crates" / "list_cases"
 
 # ---------------------------------------------------------------------------------------------------------------
 # Trees: a gauge is a list of its (height, width) sizes, a join a join byte with its older and its newer part.
@@ -438,13 +436,9 @@ ARENA_LINES = [
 # Model and hand-written answers
 
 
-def disagreements(case):
-    """What the model says otherwise than the hand-written answer, or than all choices of a face that has few."""
-    number = face_model.number_of(case.file)
-    if number != case.number:
-        return [f"{case.name}: by hand {case.number}, by the model {number}"]
-    if number != 0:
-        return []
+def taken_faults(case):
+    """What the model says of a taken face otherwise than the hand-written answer, or than all choices where they are
+    few."""
     face_read = face_model.read(case.file)
     listed = list_model.list_call(case.file, [1] * face_read.size_count())
     items = [(item.height, item.width) for item in listed.items]
@@ -459,32 +453,15 @@ def disagreements(case):
     return faults
 
 
+def case_lines(case):
+    return refused_lines(case) if case.number else taken_lines(case)
+
+
 def main():
-    faults = [fault for case in CASES for fault in disagreements(case)]
-    names = [case.name for case in CASES]
-    faults += [f"{name}: two cases have this name" for name in sorted(set(names)) if names.count(name) > 1]
-    if faults:
-        sys.exit("\n".join(faults))
-
-    files = {CRATE / "data" / case.name: case.file for case in CASES}
-    lines = [line for case in CASES for line in (refused_lines(case) if case.number else taken_lines(case))]
-    files[CRATE / "args"] = "".join(name + "\n" for name in names).encode()
-    files[CRATE / "stdout"] = "".join(line + "\n" for line in lines + ARENA_LINES).encode()
-    old = [path for path in (CRATE / "data").glob("*") if path not in files]
-
-    if "--check" in sys.argv[1:]:
-        other = [path for path, content in files.items() if not path.is_file() or path.read_bytes() != content]
-        if other or old:
-            sys.exit("\n".join(f"{path}: not as this script writes it" for path in other + old))
-        print(f"{len(CASES)} cases: the files are as this script writes them")
-        return
-
-    (CRATE / "data").mkdir(parents=True, exist_ok=True)
-    for path in old:
-        path.unlink()
-    for path, content in files.items():
-        path.write_bytes(content)
-    print(f"{len(CASES)} cases written")
+    stored_files.stop_at(stored_files.faults_of(CASES, taken_faults))
+    lines = [line for case in CASES for line in case_lines(case)]
+    files = stored_files.of_data(stored_files.data_of(CASES), lines + ARENA_LINES)
+    stored_files.Stored("list_cases", files, f"{len(CASES)} cases").write_or_check()
 
 
 if __name__ == "__main__":

@@ -9,16 +9,12 @@ Each file is one of crates/fit_cases, or is made here: files longer than any fac
 it, and the script stops where the models give another.
 """
 
-import pathlib
 import sys
 
 sys.dont_write_bytecode = True
 
-import face_model
-import fit_model
-
-CRATES = pathlib.Path(__file__).resolve().parent.parent / "crates"
-CRATE = CRATES / "text_cases"
+import stored_files
+import text_model
 
 # Files of crates/fit_cases.
 TAKEN = """example example-stacked lone-1-1 lone-of-8 lone-equal-areas tie tie-stacked lower-side three-beside
@@ -40,65 +36,26 @@ gauge 2 size 1 at 40 0
 def long_files(example, row):
     """Files longer than any face, which is 2,246 bytes at most: the answer is that of the first check that fails."""
     return {
-        "long-after-end": example + bytes(6000),
-        "long-row-after-end": row + bytes(9000),
-        "long-wrong-mark": b"FCF" + bytes(7000),
-        "long-empty": bytes(5000),
+        "long-after-end.fce": example + bytes(6000),
+        "long-row-after-end.fce": row + bytes(9000),
+        "long-wrong-mark.fce": b"FCF" + bytes(7000),
+        "long-empty.fce": bytes(5000),
     }
-
-
-def text_of(file):
-    """What `faces` prints for a file."""
-    # "A program `faces` reads a file from standard input, fits it to 64,000 by 64,000 and prints as below, or one line
-    # such as `refused 4`."
-    try:
-        face_model.read(file)
-    except face_model.Refused as no:
-        return f"refused {no.number}\n"
-    root = fit_model.root_part(file)
-    best = fit_model.picked(root.items, 64000, 64000)
-    # "The first line has the item count; item lines are height, width; `best` is height, width, area; gauge lines are
-    # number, size, across, up."
-    lines = [f"faces {len(root.items)}"]
-    lines += [f"{item.height} {item.width}" for item in root.items]
-    lines.append(f"best {best.height} {best.width} {best.height * best.width}")
-    for number, place in enumerate(fit_model.layout(root, best, 0, 0), 1):
-        lines.append(f"gauge {number} size {place.size} at {place.across} {place.up}")
-    return "".join(line + "\n" for line in lines)
 
 
 def files():
     """Every file, by its name."""
-    source = CRATES / "fit_cases" / "data"
-    found = {name: (source / f"{name}.fce").read_bytes() for name in TAKEN + REFUSED}
-    found.update(long_files(found["example"], found["row-of-64"]))
-    return found
-
-
-def wanted():
-    """Every file of the crate that this script writes, by its path."""
-    cases = files()
-    if text_of(cases["example"]) != EXAMPLE:
-        sys.exit("the models and document 01 differ on the example")
-    result = {CRATE / "data" / f"{name}.fce": file for name, file in cases.items()}
-    result[CRATE / "args"] = "".join(f"{name}.fce\n" for name in cases).encode()
-    text = "".join(f"{name}.fce\n{text_of(file)}" for name, file in cases.items())
-    result[CRATE / "stdout"] = text.encode()
-    return result
+    source = stored_files.ROOT / "crates" / "fit_cases" / "data"
+    found = {f"{name}.fce": (source / f"{name}.fce").read_bytes() for name in TAKEN + REFUSED}
+    return found | long_files(found["example.fce"], found["row-of-64.fce"])
 
 
 def main():
-    result = wanted()
-    if "--check" in sys.argv[1:]:
-        wrong = [path for path, content in result.items() if not path.exists() or path.read_bytes() != content]
-        extra = [path for path in (CRATE / "data").iterdir() if path not in result]
-        if wrong or extra:
-            sys.exit("differ: " + ", ".join(path.name for path in wrong + extra))
-        print(f"{len(result) - 2} cases: the files are as this script writes them")
-        return
-    for path, content in result.items():
-        path.parent.mkdir(parents=True, exist_ok=True)
-        path.write_bytes(content)
+    data = files()
+    if text_model.text_of(data["example.fce"]) != EXAMPLE:
+        sys.exit("the models and document 01 differ on the example")
+    lines = [line for name, file in data.items() for line in [name, *text_model.text_of(file).splitlines()]]
+    stored_files.Stored("text_cases", stored_files.of_data(data, lines), f"{len(data)} cases").write_or_check()
 
 
 if __name__ == "__main__":
