@@ -7,11 +7,12 @@ use Prim.Native.Nat.{ℕ, zero, suc, _+_, _%_, _^_, _≤_, _<_}
 use native.Mathlib.Omega.{arith}
 use lib.ListN.{length}
 use lib.Dec.{leb, ltb}
-use borrow.Author.Tests.{lt-ltb, le-ltb}
+use borrow.Author.Tests.{lt-ltb, le-ltb, lt-leb}
 use Rattle.arena.specs.Arena.{level, pWord, adjust}
-use Rattle.arena.specs.Lazy.{nextWith, sumFrom}
-use Rattle.arena.specs.Chain.{All, Away, Member, Chain, Linked, pUnder, after, trues, Same, Shape, Value}
+use Rattle.arena.specs.Lazy.{nextWith, lastWith, sumFrom}
+use Rattle.arena.specs.Chain.{All, Member, Chain, Linked, pUnder, after, trues, Same, Shape, Value}
 use Rattle.arena.specs.Building.{Built}
+use Rattle.arena.proofs.Cases.{lt-or-ge}
 
 pub all-map : {P Q : ℕ → Type 0} (rs : List ℕ) → ((x : ℕ) → P x → Q x) → All P rs → All Q rs
 all-map [] f p = tt
@@ -45,11 +46,6 @@ same-value a b x s =
       adjust-kept = λ k p. s .at (11 + k) (omega arith);
     }
 
--- What is outside h and r, for records that are neither.
-pub all-outside : (a b : List ℕ) (h r : ℕ) (rs : List ℕ) → ((x : ℕ) → (x ≡ h → ⊥) → (x ≡ r → ⊥) → Same a b x) → Away h rs → Away r rs → All (Same a b) rs
-all-outside a b h r [] f p q = tt
-all-outside a b h r (x ∷ rs) f p q = (f x (p .0) (q .0), all-outside a b h r rs f (p .1) (q .1))
-
 module _ (a : List ℕ) (k r : ℕ) (rs : List ℕ) where
   pub next-here : k < level a r → nextWith a k (r ∷ rs) ≡ r
   unfolding nextWith
@@ -63,6 +59,13 @@ pub next-frame : (a b : List ℕ) (k : ℕ) (rs : List ℕ) → All (λ x. level
 unfolding nextWith
 next-frame a b k [] e = refl
 next-frame a b k (r ∷ rs) e = ap₂ (λ (l : ℕ) (x : ℕ). cond (ltb k l) r x) (e .0) (next-frame a b k rs (e .1))
+
+pub last-frame : (a b : List ℕ) (k h : ℕ) (rs : List ℕ) → All (λ x. level b x ≡ level a x) rs → lastWith b k h rs ≡ lastWith a k h rs
+unfolding lastWith
+last-frame a b k h [] e = refl
+last-frame a b k h (r ∷ rs) e =
+    ap (λ (l : ℕ). lastWith b k (cond (ltb k l) r h) rs) (e .0)
+    ∙ last-frame a b k (cond (ltb k (level a r)) r h) rs (e .1)
 
 levels-kept : (a b : List ℕ) (rs : List ℕ) → All (Shape a b) rs → All (λ x. level b x ≡ level a x) rs
 levels-kept a b rs s = all-map rs (λ x t. t .level-kept) s
@@ -115,12 +118,17 @@ built-frame a b h rs long s t built =
       still = λ k p. s .at (11 + k) (omega arith) ∙ built .still k p;
     }
 
--- A sum over the links below n reads its function there alone.
-pub sum-frame : (f g : ℕ → ℕ) (l n : ℕ) → ((k : ℕ) → k < n → g k ≡ f k) → sumFrom g l n ≡ sumFrom f l n
+-- A sum over the links from l up to n reads its function there alone.
+pub sum-agree : (f g : ℕ → ℕ) (l n : ℕ) → ((k : ℕ) → l ≤ k → k < n → g k ≡ f k) → sumFrom g l n ≡ sumFrom f l n
 unfolding sumFrom
-sum-frame f g l zero e = refl
-sum-frame f g l (suc n) e =
-    ap₂ (λ (x : ℕ) (y : ℕ). x + cond (leb l n) y 0) (sum-frame f g l n (λ k p. e k (omega arith))) (e n (omega arith))
+sum-agree f g l zero e = refl
+sum-agree f g l (suc n) e =
+    lt-or-ge n l (λ p. ap₂ _+_ (sum-agree f g l n (λ k low high. e k low (omega arith))) (simp (lt-leb l n p)))
+    (λ p.
+    ap₂ _+_ (sum-agree f g l n (λ k low high. e k low (omega arith))) (ap (λ (x : ℕ). cond (leb l n) x 0) (e n p (omega arith))))
+
+pub sum-frame : (f g : ℕ → ℕ) (l n : ℕ) → ((k : ℕ) → k < n → g k ≡ f k) → sumFrom g l n ≡ sumFrom f l n
+sum-frame f g l n e = sum-agree f g l n (λ k low high. e k high)
 
 pub sum-zero : (l n : ℕ) → sumFrom (λ k. 0) l n ≡ 0
 unfolding sumFrom
@@ -130,6 +138,16 @@ sum-zero l (suc n) = ap₂ (λ (x : ℕ) (y : ℕ). x + y) (sum-zero l n) (none 
     none : (t : Bool) → _≡_ {A = ℕ} (cond t 0 0) 0
     none true = refl
     none false = refl
+
+-- The sums after a record: its own adjusts at the links that it has, and above them those that entered.
+module _ (a : List ℕ) (f : ℕ → ℕ) (r k : ℕ) where
+  pub after-in : k < level a r → after a f r k ≡ adjust a r k
+  unfolding after
+  after-in h = simp (lt-ltb k (level a r) h)
+
+  pub after-out : level a r ≤ k → after a f r k ≡ f k
+  unfolding after
+  after-out h = simp (le-ltb k (level a r) h)
 
 module _ (a b : List ℕ) (f g : ℕ → ℕ) (e : (k : ℕ) → k < 8 → g k ≡ f k) where
   pub under-frame : (r : ℕ) → level b r ≡ level a r → pWord b r ≡ pWord a r → pUnder b g r ≡ pUnder a f r

@@ -6,16 +6,17 @@ use Prim.Native.Nat.{ℕ, zero, suc, _+_, _-_, _*_, _≤_, _<_}
 use native.Mathlib.Numerals.{add-one}
 use native.Mathlib.Omega.{arith}
 use lib.ListN.{length, getD, drop}
-use lib.Seq.{drop-cons, drop-drop, drop-length, getD-drop}
+use lib.Seq.{drop-cons, drop-drop, drop-length}
 use Rattle.slicing.specs.Item.{Item, size}
 use Rattle.arena.specs.Arena.{level, mWord}
 use Rattle.arena.specs.Chain.{All, Away, trues, Same}
 use Rattle.arena.specs.Building.{Built, Cleared}
 use Rattle.facefile.specs.Format.{field}
 use Rattle.facefile.specs.Sizes.{sizesIn}
+use Rattle.facefile.proofs.SizeChecks.{size-at}
 use Rattle.arena.specs.Loading.{numbers, loaded1, Loadable, Loaded}
 use Rattle.arena.proofs.PutLaws.{same-refl, same-trans}
-use Rattle.arena.proofs.Frames.{all-map, map-same, all-outside}
+use Rattle.arena.proofs.Frames.{all-map, all-both, map-same}
 use Rattle.arena.proofs.Written.{Loaded1, loaded-one}
 
 abbrev ms : List Item → List ℕ
@@ -40,21 +41,14 @@ numbers-step r k n p =
 levels-step : (l : List ℕ) (k : ℕ) → k < length l → drop k l ≡ getD l k 0 ∷ drop (k + 1) l
 levels-step l k p = rw (add-one, drop-cons l k 0)
 
-field-drop : (s : List ℕ) (at k : ℕ) → field (drop at s) k ≡ field s (at + k)
-field-drop s at k =
-    let e : at + (k + 1) ≡ at + k + 1 = omega arith in
-    ap₂ (λ (x : ℕ) (y : ℕ). 256 * x + y) (getD-drop at s k 0)
-    (getD-drop at s (k + 1) 0 ∙ ap (λ (i : ℕ). getD s i 0) e)
-
 sizes-step : (s : List ℕ) (k n : ℕ) → k < n → sizesIn (n - k) (drop (4 * k) s) ≡ size (field s (4 * k)) (field s (4 * k + 2)) ∷ sizesIn (n - (k + 1)) (drop (4 * (k + 1)) s)
 unfolding sizesIn
 sizes-step s k n p =
     let e : n - k ≡ suc (n - (k + 1)) = omega arith in
     let f : 4 * k + 4 ≡ 4 * (k + 1) = omega arith in
-    let z : 4 * k + 0 ≡ 4 * k = omega arith in
     ap (λ (j : ℕ). sizesIn j (drop (4 * k) s)) e
     ∙ ap₂ _∷_
-    (ap₂ size (field-drop s (4 * k) 0 ∙ ap (field s) z) (field-drop s (4 * k) 2))
+    (sym (size-at s (4 * k) (field s (4 * k)) (field s (4 * k + 2)) refl refl))
     (ap (sizesIn (n - (k + 1))) (drop-drop 4 (4 * k) s ∙ ap (λ (j : ℕ). drop j s) f))
 
 -- The arena a is that with the head cleared; the records from first + i on are filled and are its list.
@@ -125,7 +119,7 @@ module _ (a : List ℕ) (head first : ℕ) (sizes levels b : List ℕ) (k : ℕ)
 
   rest-same : All (Same b c) rest
   unfolding rest
-  rest-same = all-outside b c head (first + k) rest (one .outside) (t .built .linked .away) away
+  rest-same = all-both rest (one .outside) (t .built .linked .away) away
 
   loading-one : Loading a head first sizes levels c k
   unfolding rest
@@ -175,32 +169,3 @@ loading-done a head first sizes levels b c i cleared t none =
           m-is = rw (e, f) at (s .m-is);
           true-p = rw (e, f) at (s .true-p);
         }
-
--- What is said of the whole list, said of record first + i.
-numbers-at : (f : ℕ → ℕ) (r n : ℕ) (l : List ℕ) → map f (numbers r n) ≡ l → (i : ℕ) → i < n → f (r + i) ≡ getD l i 0
-unfolding numbers
-numbers-at f r zero l e i p = absurd (omega arith)
-numbers-at f r (suc n) l e zero p =
-    let first : r + 0 ≡ r = omega arith in
-    ap f first ∙ ap (λ (x : List ℕ). getD x 0 0) e
-numbers-at f r (suc n) l e (suc i) p =
-    let next : r + suc i ≡ suc r + i = omega arith in
-    ap f next ∙ numbers-at f (suc r) n (map f (numbers (suc r) n)) refl i (omega arith)
-    ∙ ap (λ (x : List ℕ). getD x (suc i) 0) e
-
-sizes-at : (n : ℕ) (bytes : List ℕ) (i : ℕ) → i < n → getD (ms (sizesIn n bytes)) i 0 ≡ field bytes (4 * i)
-unfolding sizesIn
-sizes-at zero bytes i p = absurd (omega arith)
-sizes-at (suc n) bytes zero p = refl
-sizes-at (suc n) bytes (suc i) p =
-    let next : 4 + 4 * i ≡ 4 * suc i = omega arith in
-    sizes-at n (drop 4 bytes) i (omega arith) ∙ field-drop bytes 4 (4 * i) ∙ ap (field bytes) next
-
-module _ (a : List ℕ) (head first : ℕ) (sizes levels b : List ℕ) (t : Loaded a head first sizes levels b) (i : ℕ) (less : i < length levels) where
-  pub loaded-level : level b (first + i) ≡ getD levels i 0
-  loaded-level = numbers-at (level b) first (length levels) levels (t .level-is) i less
-
-  pub loaded-m : mWord b (first + i) ≡ field sizes (4 * i)
-  loaded-m =
-      numbers-at (mWord b) first (length levels) (ms (sizesIn (length levels) sizes)) (t .m-is) i less
-      ∙ sizes-at (length levels) sizes i less

@@ -9,12 +9,14 @@ use native.Mathlib.Numerals.{add-one}
 use native.Mathlib.Omega.{arith}
 use lib.ListN.{length, getD, set, length-set}
 use lib.Seq.{getD-set-same, getD-set-other}
-use borrow.Author.Tests.{le-leb, lt-leb, lt-ltb, le-ltb}
+use borrow.Author.Count.{below-more}
+use borrow.Author.Tests.{le-leb, lt-leb}
 use Rattle.arena.specs.Arena.{word, level, pWord, adjust}
 use Rattle.arena.specs.Lazy.{sumFrom}
-use Rattle.arena.specs.Chain.{pUnder, after}
+use Rattle.arena.specs.Chain.{pUnder}
 use Rattle.arena.specs.Turning.{sumsIn, Summable, Summed}
-use Rattle.arena.proofs.Cases.{last-or-below, lt-or-ge}
+use Rattle.arena.proofs.Cases.{lt-or-ge}
+use Rattle.arena.proofs.Frames.{after-in, after-out}
 
 -- The stored p of record r and the sums of the links from its level up to k, wrapped.
 pub record Adding (a : List ℕ) (r : ℕ) (sums : List ℕ) (p k : ℕ) : Type 0 where
@@ -81,22 +83,18 @@ passing-more a r sums l w left k v q f g s less e =
       inside = omega arith;
       long = length-set left k v ∙ s .long;
       new =
-          λ i p. last-or-below i k (subst (λ (n : ℕ). i < n) (add-one k) p)
-          (λ f. rw f (getD-set-same left k v 0 room ∙ e))
-          (λ below. getD-set-other left k i v 0 (λ f. omega arith) ∙ s .new i below);
+          below-more _ _ (λ i below. getD-set-other left k i v 0 (λ f. omega arith) ∙ s .new i below)
+          (getD-set-same left k v 0 room ∙ e);
       old = λ i p. getD-set-other left k i v 0 (λ f. omega arith) ∙ s .old i (omega arith);
     }
 
 pub passing-done : (a : List ℕ) (r : ℕ) (sums : List ℕ) (l v : ℕ) (left : List ℕ) (k : ℕ) → Passing a r sums l left k → l ≤ k → l ≡ v → v ≡ word a r 0 → Summed a r sums left
-unfolding after
 passing-done a r sums l v left k s done e f =
     let inside = s .inside in
     record {
       long = s .long;
       at =
           λ i p. lt-or-ge i (level a r)
-          (λ less. s .new i (omega arith)
-          ∙ ap (λ (t : Bool). cond t (adjust a r i) (getD sums i 0)) (sym (lt-ltb i (level a r) less)))
-          (λ past. s .old i (omega arith)
-          ∙ ap (λ (t : Bool). cond t (adjust a r i) (getD sums i 0)) (sym (le-ltb i (level a r) past)));
+          (λ less. s .new i (omega arith) ∙ sym (after-in a (sumsIn sums) r i less))
+          (λ past. s .old i (omega arith) ∙ sym (after-out a (sumsIn sums) r i past));
     }

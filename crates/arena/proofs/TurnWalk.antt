@@ -1,18 +1,16 @@
 -- What the loop that turns a list keeps, and that at its end the list is turned.
 -- The records left follow one another by the first link, so that the walk ends, and at its end none are left.
 use mathlib.Core.Path.{_≡_, refl, sym, ap, subst, _∙_}
-use mathlib.Core.Bool.{Bool, cond}
-use mathlib.Core.List.{List, [], _∷_, map, reverse, reverseAux}
+use mathlib.Core.List.{List, [], _∷_, reverseAux}
 use Prim.Native.Nat.{ℕ, _+_, _*_, _%_, _^_, _<_}
 use native.Mathlib.Omega.{arith}
 use lib.ListN.{length, getD}
-use borrow.Author.Tests.{lt-ltb}
 use Rattle.arena.specs.Arena.{stride, word, level, mWord, adjust}
-use Rattle.arena.specs.Chain.{Has, All, Linked, after, trues, Same}
+use Rattle.arena.specs.Chain.{Has, All, Linked, trues, Same}
 use Rattle.arena.specs.Building.{Cleared}
 use Rattle.arena.specs.Turning.{sumsIn, Summable, Summed, turned1, Turnable1, Turnable, Turned}
 use Rattle.arena.proofs.PutLaws.{same-refl, same-trans}
-use Rattle.arena.proofs.Frames.{all-map, all-refl, all-both, map-same, same-shape, same-value, linked-frame, trues-frame}
+use Rattle.arena.proofs.Frames.{all-map, all-refl, all-both, map-same, same-shape, same-value, linked-frame, after-in, trues-frame}
 use Rattle.arena.proofs.Walking.{count, next-none, next-first, count-is, one-list}
 use Rattle.arena.proofs.Turns.{Moved, Ready, moved-none, ready-more, moved-more}
 
@@ -47,12 +45,10 @@ pub record Turning (a : List ℕ) (from to : ℕ) (b sums : List ℕ) (next : �
   pub fits : next < 4_294_967_296
 
 pub turning-start : (a : List ℕ) (from to : ℕ) (b zeros sums : List ℕ) (next : ℕ) → (rs : List ℕ) × Turnable a from to rs → Cleared a to b → length zeros ≡ 8 → Summed b from zeros sums → next ≡ word b from 3 → next < 4_294_967_296 → Turning b from to b sums next
-unfolding after
 turning-start a from to b zeros sums next (rs, t) cleared eight summed e fits =
     let linked = linked-cleared a from to rs b t cleared in
     let top = linked .top in
-    let start : (k : ℕ) → k < 8 → sumsIn sums k ≡ adjust b from k = λ k p. summed .at k p
-    ∙ ap (λ (s : Bool). cond s (adjust b from k) (getD zeros k 0)) (lt-ltb k (level b from) (omega arith)) in
+    let start : (k : ℕ) → k < 8 → sumsIn sums k ≡ adjust b from k = λ k p. summed .at k p ∙ after-in b (sumsIn zeros) from k (omega arith) in
     record {
       rs = rs;
       linked = linked;
@@ -206,11 +202,3 @@ turning-done a from to b c sums next small cleared t e rs k =
           omega arith)
           same));
     }
-
-map-reversed : (f : ℕ → ℕ) (rs ss : List ℕ) → map f (reverseAux rs ss) ≡ reverseAux (map f rs) (map f ss)
-map-reversed f [] ss = refl
-map-reversed f (r ∷ rs) ss = map-reversed f rs (r ∷ ss)
-
--- The m of the turned list, in its own order.
-pub turned-m : (a : List ℕ) (from to : ℕ) (rs b : List ℕ) → Turned a from to rs b → map (mWord b) (reverse rs) ≡ reverse (trues a (adjust a from) rs)
-turned-m a from to rs b t = map-reversed (mWord b) rs [] ∙ ap reverse (t .m-is)

@@ -2,7 +2,7 @@
 -- One record goes over at a turn, and what it leaves of the records left is the same chain with the same true p.
 use mathlib.Core.Path.{_≡_, refl, sym, ap, ap₂, _∙_}
 use mathlib.Core.List.{List, [], _∷_, map, reverseAux}
-use Prim.Native.Nat.{ℕ, _-_, _%_, _^_, _≤_, _<_}
+use Prim.Native.Nat.{ℕ, _%_, _^_, _≤_, _<_}
 use native.Mathlib.Omega.{arith}
 use lib.ListN.{length}
 use Rattle.arena.specs.Arena.{word, level, mWord, pWord}
@@ -11,7 +11,7 @@ use Rattle.arena.specs.Chain.{All, Away, Member, Chain, after, trues, Sa
 use Rattle.arena.specs.Building.{Built}
 use Rattle.arena.specs.Turning.{turned1}
 use Rattle.arena.proofs.PutLaws.{same-refl, same-trans}
-use Rattle.arena.proofs.Frames.{all-map, all-refl, all-both, map-same, all-outside, same-shape, same-value, next-frame, chain-frame, trues-frame}
+use Rattle.arena.proofs.Frames.{all-map, all-refl, all-both, map-same, same-shape, same-value, next-frame, chain-frame, trues-frame}
 use Rattle.arena.proofs.Swaps.{Turned1, turned-one}
 
 -- The arena b is a with the records qs turned, one by one, to before the list ds of the head h.
@@ -67,10 +67,10 @@ module _ (a : List ℕ) (f : ℕ → ℕ) (h r : ℕ) (ds qs : List ℕ) (next :
       b e
 
   left-same : All (Same a b) qs
-  left-same = all-outside a b h r qs (one .outside) (ready .apart .1) (member .away)
+  left-same = all-both qs (one .outside) (ready .apart .1) (member .away)
 
   built-same : All (Same a b) ds
-  built-same = all-outside a b h r ds (one .outside) (ready .built .linked .away) (ready .cross .0)
+  built-same = all-both ds (one .outside) (ready .built .linked .away) (ready .cross .0)
 
   pub ready-more : (n : ℕ) → n ≡ word a r 3 → Ready b h (r ∷ ds) qs n
   ready-more n k =

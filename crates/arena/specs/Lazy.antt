@@ -1,11 +1,10 @@
 -- Document 01, "Lazy lists": what a list of records in an arena holds, and when it is a lazy list.
-use mathlib.Core.Bool.{Bool, true, false, cond, _&&_}
+use mathlib.Core.Bool.{Bool, true, cond, _&&_}
 use mathlib.Core.List.{List, [], _∷_, _++_}
 use Prim.Native.Nat.{ℕ, zero, suc, _+_, _%_, _^_}
 use lib.Dec.{leb, ltb, eqb}
 use Rattle.checks.specs.Check.{LazyList}
 use Rattle.checks.specs.Answer.{Answer, refused, taken, ask, next}
-use Rattle.slicing.specs.Item.{Item}
 use Rattle.slicing.specs.Recorded.{Recorded}
 use Rattle.arena.specs.Arena.{level, mWord, pWord, forward, adjust}
 

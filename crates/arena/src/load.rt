@@ -1,7 +1,6 @@
 // A list made of a gauge's sizes.
 ghost use mathlib.Core.Path.{_≡_};
 ghost use Prim.Native.Nat.{_+_, _≤_, _<_};
-ghost use lib.ListN.{length};
 ghost use Rattle.arena.specs.Building.{Hookable};
 ghost use Rattle.arena.specs.Loading.{loaded1, Loadable, Loaded};
 use crate::empty::clear_head;

@@ -1,6 +1,6 @@
 -- What a caller of the reader knows: with the number 0 the file means a tree, whose gauges and sizes the answer counts; with any other it is refused by the check of that number.
 -- The answer is the definition's, and no check has the number 0.
-use mathlib.Core.Path.{_≡_, refl, sym, ap, _∙_}
+use mathlib.Core.Path.{_≡_, refl, sym, ap}
 use mathlib.Core.List.{List, []}
 use Prim.Native.Nat.{ℕ, zero, suc, _<_}
 use native.Mathlib.Omega.{arith}

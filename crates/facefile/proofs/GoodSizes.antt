@@ -1,15 +1,15 @@
 -- The sizes that a gauge's questions take: as many as its count says, within the limits and strictly ordered, and with the very bytes that were read.
 -- Each size passed check 8 and, after the first, check 9 against the size before it, so its order against all earlier ones follows by steps.
-use mathlib.Core.Path.{_≡_, refl, sym, ap, _∙_}
-use mathlib.Core.Bool.{Bool, true, false, _&&_}
+use mathlib.Core.Path.{_≡_, refl, ap}
+use mathlib.Core.Bool.{true}
 use mathlib.Core.List.{List, [], _∷_, List·Memᴰ, List·Memᴰ·not-nil, List·Memᴰ·cases-cons}
 use mathlib.Core.Logic.{⊎-elim}
-use Prim.Native.Nat.{ℕ, zero, suc, _+_, _*_, _≤_, _<_}
+use Prim.Native.Nat.{ℕ, zero, suc, _≤_, _<_}
 use native.Mathlib.Omega.{arith}
-use lib.ListN.{length, getD, drop}
+use lib.ListN.{length, drop}
 use lib.Dec.{ltb}
 use borrow.Author.Tests.{ltb-true}
-use Rattle.checks.specs.Answer.{Answer, taken, next}
+use Rattle.checks.specs.Answer.{taken}
 use Rattle.checks.proofs.Answers.{same-taken, ask-taken, next-taken}
 use Rattle.slicing.specs.Item.{Item, height, width}
 use Rattle.slicing.specs.Good.{Limited, Ordered, GoodGauge}

@@ -3,10 +3,10 @@
 use mathlib.Core.Path.{_≡_, refl, sym, ap, subst, _∙_}
 use mathlib.Core.Bool.{Bool, true, false, not, _&&_}
 use mathlib.Core.List.{List, [], _∷_}
-use Prim.Native.Nat.{ℕ, zero, suc, _+_, _-_, _*_, _≤_, _<_}
+use Prim.Native.Nat.{ℕ, suc, _+_, _-_, _≤_, _<_}
 use native.Mathlib.Omega.{arith}
-use lib.ListN.{length, getD, take, drop, length-drop}
-use lib.Dec.{leb, eqb}
+use lib.ListN.{length, getD, take, length-drop}
+use lib.Dec.{eqb}
 use borrow.Author.Tests.{le-leb, lt-leb, eq-eqb, ne-eqb, eqb-true, not-true, not-false}
 use Rattle.checks.specs.Check.{Check, OnePart, AtEnd, numberOf}
 use Rattle.checks.specs.Answer.{Answer, refused, taken, next, number}
@@ -20,7 +20,7 @@ use Rattle.facefile.specs.Format.{State, field, within, marked, header, 
 use Rattle.facefile.specs.Summary.{refusedFace, summary}
 use Rattle.facefile.specs.Tracking.{flat, Fair, Tracks, Follows, Does, Ends}
 use Rattle.facefile.proofs.Took.{both-true}
-use Rattle.facefile.proofs.Taken.{Headed, header-taken}
+use Rattle.facefile.proofs.Taken.{header-taken}
 
 -- The first three bytes are `FCE` exactly where the definition's test says so.
 abbrev fce : List ℕ

@@ -7,12 +7,12 @@ use Prim.Native.Nat.{ℕ, zero, suc, _*_, _≤_}
 use native.Mathlib.Omega.{arith}
 use lib.ListN.{length, getD, drop}
 use lib.Dec.{leb, ltb, eqb}
-use Rattle.checks.specs.Check.{Check, Limits, Order, Present, Gauges, SizeCount, Join, Kind, OnePart, AtEnd, Length, Mark, Version, Entries, numberOf}
-use Rattle.checks.specs.Answer.{Answer, refused, taken, ask, next}
+use Rattle.checks.specs.Check.{Check, Limits, Order, Present, Gauges, SizeCount, AtEnd, Length, Mark, Version, Entries, numberOf}
+use Rattle.checks.specs.Answer.{Answer, refused, ask}
 use Rattle.checks.proofs.Answers.{number-positive, RefusedBy, ask-refused, next-refused}
 use Rattle.slicing.specs.Item.{Item}
 use Rattle.slicing.specs.Tree.{Tree, beside, stacked}
-use Rattle.facefile.specs.Format.{State, field, within, marked, header, start, skip, limited, ordered, sizeAt, sizesAfter, sizesFrom, gaugeTaken, gaugeSizes, gaugeEntry, joinParts, joinEntry, kindEntry, entry, entries, onePart, atEnd, faceOf}
+use Rattle.facefile.specs.Format.{State, field, within, marked, header, start, skip, limited, ordered, sizeAt, sizesAfter, sizesFrom, gaugeSizes, gaugeEntry, joinParts, joinEntry, kindEntry, entry, entries, onePart, atEnd, faceOf}
 
 -- The check is one of the file's own.
 abbrev OfFile : Check → Type 0

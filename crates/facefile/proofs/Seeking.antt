@@ -1,14 +1,13 @@
 -- What the search for a gauge keeps: the gauges passed and those still to come up to the sought one are together its number.
 -- Each gauge of the tree stands after those that the walk has passed, and an entry only adds to these at the end.
-use mathlib.Core.Path.{_≡_, refl, sym, ap, subst, _∙_}
+use mathlib.Core.Path.{_≡_, refl, sym, ap, _∙_}
 use mathlib.Core.List.{List, [], _∷_, _++_, append-assoc}
 use Prim.Native.Nat.{ℕ, zero, suc, _+_, _-_, _*_, _≤_, _<_}
 use native.Mathlib.Omega.{arith}
-use lib.ListN.{length, getD, take, drop, length-drop, length-append}
+use lib.ListN.{length, getD, drop, length-drop, length-append}
 use Rattle.checks.specs.Answer.{Answer, taken}
 use Rattle.slicing.specs.Item.{Item}
 use Rattle.slicing.specs.Tree.{Tree, gaugesOf}
-use Rattle.facefile.specs.declared.Stretch.{Stretch}
 use Rattle.facefile.specs.Format.{State, start, faceOf}
 use Rattle.facefile.specs.Gauge.{sizeBytes, gaugeNumbered, gaugeIn, gaugeBytes}
 use Rattle.facefile.specs.Tracking.{flat}
@@ -16,7 +15,7 @@ use Rattle.facefile.specs.Finding.{Found}
 use Rattle.facefile.proofs.Took.{state}
 use Rattle.facefile.proofs.Stacks.{join-flat, reads-flat, gauges-join}
 use Rattle.facefile.proofs.SizeBytes.{Bytes, bytes-drop, sizes-bytes}
-use Rattle.facefile.proofs.Walk.{Walk, walk-start, walk-end, GaugeTurn, gauge-turn, JoinTurn, join-turn}
+use Rattle.facefile.proofs.Walk.{Walk, walk-start, walk-end, GaugeTurn, gauge-turn, join-turn}
 
 pub record Seeking (file : List ℕ) (gauge at left : ℕ) : Type 0 where
   pub tree : Tree

@@ -1,7 +1,7 @@
 -- The bytes that a gauge's sizes were read from are their heights and widths, four bytes a size.
 -- A 16-bit field of two bytes gives them back by division and remainder, since each is below 256.
-use mathlib.Core.Path.{_≡_, refl, sym, ap, _∙_}
-use mathlib.Core.List.{List, [], _∷_, _++_}
+use mathlib.Core.Path.{_≡_, refl, sym, _∙_}
+use mathlib.Core.List.{List, [], _∷_}
 use Prim.Native.Nat.{ℕ, zero, suc, _+_, _*_, _/_, _%_, _≤_, _<_}
 use native.Mathlib.Omega.{arith}
 use lib.ListN.{length, getD, take, drop, length-drop}
@@ -9,7 +9,7 @@ use lib.Seq.{take-add, getD-drop}
 use Rattle.checks.specs.Answer.{taken}
 use Rattle.checks.proofs.Answers.{same-taken, ask-taken, next-taken}
 use Rattle.slicing.specs.Item.{Item}
-use Rattle.facefile.specs.Format.{field, limited, ordered, sizeAt, sizesAfter, sizesFrom}
+use Rattle.facefile.specs.Format.{limited, ordered, sizeAt, sizesAfter, sizesFrom}
 use Rattle.facefile.specs.Gauge.{sizeBytes}
 
 -- Every element is a byte.

@@ -2,14 +2,14 @@
 -- The number of a chain of questions is that of what follows once a question is answered "yes", and does not hang on what is taken.
 use mathlib.Core.Path.{_≡_, refl, sym, ap, subst, _∙_}
 use mathlib.Core.Bool.{Bool, true, false, not}
-use mathlib.Core.List.{List, [], _∷_}
+use mathlib.Core.List.{List, _∷_}
 use Prim.Native.Nat.{ℕ, zero, suc, _+_, _-_, _*_, _≤_, _<_}
 use native.Mathlib.Omega.{arith}
-use lib.ListN.{length, getD, drop}
+use lib.ListN.{getD, drop}
 use lib.Dec.{leb, ltb}
 use borrow.Author.Tests.{le-leb, lt-leb, lt-ltb, le-ltb}
 use lib.Seq.{drop-drop, getD-drop}
-use Rattle.checks.specs.Check.{Check, Limits, Order, numberOf}
+use Rattle.checks.specs.Check.{Limits, Order}
 use Rattle.checks.specs.Answer.{Answer, refused, taken, ask, next, number}
 use Rattle.slicing.specs.Item.{Item, size}
 use Rattle.facefile.specs.Tracking.{sizeNumber}

@@ -2,8 +2,7 @@
 -- A gauge is a new part at the end, and a join has the lists of its two parts one after the other, as they stood.
 use mathlib.Core.Path.{_≡_, refl, sym, ap, _∙_}
 use mathlib.Core.List.{List, [], _∷_, _++_, append-nil, append-assoc}
-use Prim.Native.Nat.{ℕ, zero, suc, _+_}
-use Rattle.slicing.specs.Item.{Item}
+use Prim.Native.Nat.{ℕ}
 use Rattle.slicing.specs.Tree.{Tree, gauge, beside, stacked, gaugesOf, sizesOf}
 use Rattle.facefile.specs.Format.{State}
 use Rattle.facefile.specs.Tracking.{flat}

@@ -1,19 +1,19 @@
 -- What every taken file is: a good tree of at most 64 gauges and 512 sizes, with one entry fewer than twice its gauges.
 -- Each entry keeps the parts good and the gauges counted, and twice the gauges is always the entries and the parts together.
-use mathlib.Core.Path.{_≡_, refl, sym, ap, _∙_}
+use mathlib.Core.Path.{_≡_, refl, ap, _∙_}
 use mathlib.Core.Bool.{true}
-use mathlib.Core.List.{List, [], _∷_, _++_}
-use Prim.Native.Nat.{ℕ, zero, suc, _+_, _*_, _≤_, _<_}
+use mathlib.Core.List.{List, [], _∷_}
+use Prim.Native.Nat.{ℕ, suc, _+_, _*_, _≤_}
 use native.Mathlib.Nat.{zero-add}
 use native.Mathlib.Omega.{arith}
-use lib.ListN.{length, getD, drop, length-append}
+use lib.ListN.{length, length-append}
 use lib.Dec.{leb, eqb}
 use borrow.Author.Tests.{leb-true, eqb-true}
 use Rattle.checks.specs.Answer.{taken, next}
 use Rattle.checks.proofs.Answers.{not-both, same-taken, ask-taken, next-taken}
-use Rattle.slicing.specs.Tree.{Tree, gauge, beside, stacked, gaugesOf, gaugeCount, sizeCount}
+use Rattle.slicing.specs.Tree.{Tree, gaugesOf, gaugeCount, sizeCount}
 use Rattle.slicing.specs.Good.{Good}
-use Rattle.slicing.proofs.Counts.{Counted, counted}
+use Rattle.slicing.proofs.Counts.{counted}
 use Rattle.facefile.specs.Format.{State, field, within, marked, header, start, entries, onePart, atEnd, faceOf}
 use Rattle.facefile.specs.Tracking.{flat}
 use Rattle.facefile.proofs.Took.{state, within-true, Cut, cut-beside, cut-stacked, Took, took-gauge, took-join, Reads, reads-none, reads-more, entries-read}

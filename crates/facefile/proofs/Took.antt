@@ -1,14 +1,14 @@
 -- A taken run of entries as a relation: which bytes each entry had, and what it did to the stack. Every law of taken files goes by cases on it.
 -- It holds because a chain of questions is taken only where each was answered "yes".
-use mathlib.Core.Path.{_≡_, refl, sym, subst, _∙_}
+use mathlib.Core.Path.{_≡_, refl, sym, subst}
 use mathlib.Core.Bool.{Bool, true, false, cond, _&&_}
 use mathlib.Core.List.{List, [], _∷_}
 use Prim.Native.Nat.{ℕ, zero, suc, _+_, _*_, _≤_, _<_}
-use lib.ListN.{length, getD, drop}
+use lib.ListN.{length, drop}
 use lib.Dec.{leb, ltb, eqb}
 use borrow.Author.Tests.{leb-true, ltb-true, eqb-true}
-use Rattle.checks.specs.Check.{Check, Kind, Join}
-use Rattle.checks.specs.Answer.{Answer, refused, taken, next}
+use Rattle.checks.specs.Check.{Kind, Join}
+use Rattle.checks.specs.Answer.{refused, taken}
 use Rattle.checks.proofs.Answers.{not-both, same-taken, ask-taken, next-taken}
 use Rattle.slicing.specs.Item.{Item}
 use Rattle.slicing.specs.Tree.{Tree, gauge, beside, stacked}

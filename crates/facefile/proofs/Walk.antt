@@ -1,8 +1,8 @@
 -- A second walk over the entries of a taken file, by a place in its bytes: what stands at the place, and where the next entry stands.
 -- The state that the reading had there still has its way to the end before it, so its next entry is what the bytes at the place say.
 use mathlib.Core.Path.{_≡_, refl, sym, ap, _∙_}
-use mathlib.Core.List.{List, [], _∷_, _++_}
-use Prim.Native.Nat.{ℕ, zero, suc, _+_, _-_, _*_, _≤_, _<_}
+use mathlib.Core.List.{List, [], _∷_, cons≢nil}
+use Prim.Native.Nat.{ℕ, suc, _+_, _-_, _*_, _≤_, _<_}
 use native.Mathlib.Nat.{add-zero}
 use native.Mathlib.Omega.{arith}
 use lib.ListN.{length, getD, drop, length-drop, drop-of-length-le}
@@ -12,7 +12,7 @@ use Rattle.slicing.specs.Item.{Item}
 use Rattle.slicing.specs.Tree.{Tree, gauge}
 use Rattle.facefile.specs.Format.{State, field, start, sizesFrom, faceOf}
 use Rattle.facefile.proofs.Took.{state, Cut, cut-beside, cut-stacked, Took, took-gauge, took-join, Reads, reads-none, reads-more}
-use Rattle.facefile.proofs.Taken.{FaceRead, face-read, Sound, start-sound, took-sound}
+use Rattle.facefile.proofs.Taken.{face-read, Sound, start-sound, took-sound}
 
 -- The walk stands at the place `at` of a file that means t, with the state s of the reading.
 pub record Walk (file : List ℕ) (t : Tree) (at : ℕ) (s : State) : Type 0 where
@@ -67,12 +67,9 @@ not-gauge : (kind : ℕ) (cut : Tree → Tree → Tree) → Cut kind cut → kin
 not-gauge kind cut cut-beside e = omega arith
 not-gauge kind cut cut-stacked e = omega arith
 
-some-left : (x : ℕ) (l : List ℕ) → x ∷ l ≡ [] → ⊥
-some-left x l e = let n = ap length e in omega arith
-
 no-took : (s u : State) → Took s u → s .rest ≡ [] → ⊥
-no-took s u (took-gauge count bytes parts g z few some most present sized) e = some-left 0x01 (count ∷ bytes) e
-no-took s u (took-join kind cut bytes a b parts g c) e = some-left kind bytes e
+no-took s u (took-gauge count bytes parts g z few some most present sized) e = cons≢nil e
+no-took s u (took-join kind cut bytes a b parts g c) e = cons≢nil e
 
 -- What stands at a place of a list and after it, from what is left there.
 module _ (file : List ℕ) (at : ℕ) where

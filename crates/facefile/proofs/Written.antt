@@ -2,9 +2,8 @@
 -- An entry moves its own bytes from what is left to what the newest parts are written as, and leaves the two together as they were.
 use mathlib.Core.Path.{_≡_, refl, sym, ap, _∙_}
 use mathlib.Core.List.{List, [], _∷_, _++_, append-nil, append-assoc}
-use Prim.Native.Nat.{ℕ, zero, suc, _+_, _*_, _≤_, _<_}
-use lib.ListN.{length, getD, take, drop, take-append-drop}
-use lib.Seq.{getD-drop}
+use Prim.Native.Nat.{ℕ, suc, _*_, _≤_}
+use lib.ListN.{length, drop, take-append-drop}
 use Rattle.checks.specs.Answer.{taken}
 use Rattle.slicing.specs.Item.{Item}
 use Rattle.slicing.specs.Tree.{Tree, gauge, beside, stacked}

@@ -1,10 +1,10 @@
 -- Document 01, "The face file" and "The checks, as questions", up to check 13: any bytes, taken to the slicing tree that they mean, or refused with the first check that they fail.
-use mathlib.Core.Bool.{Bool, true, false, cond, _&&_}
+use mathlib.Core.Bool.{Bool, cond, _&&_}
 use mathlib.Core.List.{List, [], _∷_}
 use Prim.Native.Nat.{ℕ, zero, suc, _+_, _*_}
 use lib.ListN.{length, getD, drop}
 use lib.Dec.{leb, ltb, eqb}
-use Rattle.checks.specs.Check.{Check, Length, Mark, Version, Entries, Present, Kind, SizeCount, Limits, Order, Gauges, Join, OnePart, AtEnd}
+use Rattle.checks.specs.Check.{Length, Mark, Version, Entries, Present, Kind, SizeCount, Limits, Order, Gauges, Join, OnePart, AtEnd}
 use Rattle.checks.specs.Answer.{Answer, refused, taken, ask, next}
 use Rattle.slicing.specs.Item.{Item, size, height, width}
 use Rattle.slicing.specs.Tree.{Tree, gauge, beside, stacked}

@@ -1,5 +1,5 @@
 -- Document 01, "Levels and the rest": the size bytes of one gauge.
-use mathlib.Core.List.{List, [], _∷_, _++_}
+use mathlib.Core.List.{List, [], _∷_}
 use Prim.Native.Nat.{ℕ, zero, suc, _/_, _%_}
 use Rattle.checks.specs.Answer.{Answer, refused, taken}
 use Rattle.slicing.specs.Item.{Item, height, width}

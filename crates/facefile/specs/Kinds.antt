@@ -1,4 +1,4 @@
--- The kind byte that a part's last entry has, and which way the list of a part runs.
+-- The kind byte that a part's last entry has, and which way the list of a part runs. No public contract cites it.
 use mathlib.Core.Bool.{Bool, cond, not}
 use Prim.Native.Nat.{ℕ}
 use lib.Dec.{eqb}

@@ -1,4 +1,4 @@
--- The sizes that stand in bytes, four bytes a size: a height and a width.
+-- The sizes that stand in bytes, four bytes a size: a height and a width. No public contract cites it.
 use mathlib.Core.List.{List, [], _∷_}
 use Prim.Native.Nat.{ℕ, zero, suc}
 use lib.ListN.{drop}

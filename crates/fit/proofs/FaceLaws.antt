@@ -3,17 +3,17 @@
 use mathlib.Core.Path.{_≡_, refl, sym, ap, ap₂, subst, _∙_}
 use mathlib.Core.Bool.{Bool, true, false, not}
 use mathlib.Core.List.{List, _++_}
-use Prim.Native.Nat.{ℕ, _+_, _*_, _/_, _%_, _^_, _≤_, _<_}
+use Prim.Native.Nat.{ℕ, _+_, _*_, _/_, _%_, _^_, _<_}
 use native.Mathlib.Omega.{arith}
 use lib.ListN.{length, getD, drop}
 use borrow.Author.Tests.{not-true, not-false}
 use Rattle.checks.specs.Answer.{taken}
 use Rattle.checks.proofs.Answers.{same-taken}
 use Rattle.slicing.specs.Item.{Item, size, height, width}
-use Rattle.slicing.specs.Tree.{Tree, gaugeCount}
+use Rattle.slicing.specs.Tree.{Tree}
 use Rattle.slicing.specs.Shapes.{shapes}
-use Rattle.slicing.specs.Layout.{Outline}
 use Rattle.slicing.specs.Fit.{Pick, nothing, picked, smallest, place, words}
+use Rattle.slicing.specs.Layout.{outline}
 use Rattle.slicing.proofs.Placing.{words-length}
 use Rattle.slicing.proofs.ShapeLaws.{shapes-short}
 use Rattle.facefile.specs.Format.{faceOf}
@@ -23,12 +23,13 @@ use Rattle.stored.specs.Packed.{pack, facing, ownShapes, HasList}
 use Rattle.stored.specs.Store.{Stored}
 use Rattle.stored.specs.Filling.{Fillable, Filled}
 use Rattle.fit.specs.declared.Fitted.{Fitted}
-use Rattle.fit.specs.Picking.{outline, pickAt, Picks}
+use Rattle.fit.specs.Picking.{pickAt, Picks}
 use Rattle.fit.specs.Taking.{against}
 use Rattle.fit.specs.Laying.{shapeAt, Layable, laid}
 use Rattle.fit.specs.Fitting.{noFace, faceFound, faceWords}
-use Rattle.fit.specs.Facing.{Placeable, PlacedFace, PlacedIn}
-use Rattle.fit.proofs.FacingLaws.{Low, facing-low, m-is, p-is}
+use Rattle.fit.specs.Facing.{Placeable, PlacedIn}
+use Rattle.stored.proofs.Reading.{ItemWord}
+use Rattle.stored.proofs.StoredLists.{Low, facing-low, m-is, p-is}
 use Rattle.fit.proofs.Looking.{product-low, halves-low}
 use Rattle.stored.proofs.OwnLists.{own-length}
 use Rattle.fit.proofs.PartLists.{table-inside}
@@ -124,7 +125,7 @@ module _ (file s z old : List ℕ) (root gauges h w : ℕ) (filled : (t : Tree) 
             let most = taken-face .most in
             omega arith
 
-        pub face-done : (p : Placeable file gauges s old) (word : ℕ) (output : List ℕ) (r : Fitted) → ((l : List Item) → HasList z from l → count ≡ length l → word ≡ pack (getD (facing across l) at (size 0 0))) → ((t : Tree) → Layable z root t gauges at 0 0 old → output ≡ laid t at 0 0 old) → r ≡ record { number = 0; height = word / 65_536; width = word % 65_536; area = word / 65_536 * (word % 65_536); count = count } → PlacedIn file (outline h w) r old output
+        pub face-done : (p : Placeable file gauges s old) (word : ℕ) (output : List ℕ) (r : Fitted) → ItemWord z from count across at word → ((t : Tree) → Layable z root t gauges at 0 0 old → output ≡ laid t at 0 0 old) → r ≡ record { number = 0; height = word / 65_536; width = word % 65_536; area = word / 65_536 * (word % 65_536); count = count } → PlacedIn file (outline h w) r old output
         unfolding PlacedIn laid writtenOver face-lays
         face-done p word output r read lay made t e =
             let v = shapeAt t at in

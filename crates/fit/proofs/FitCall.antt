@@ -2,20 +2,20 @@
 -- The checks are the definitions' own, and the pick among the root's items decides for all layouts.
 use mathlib.Core.Path.{_≡_, refl, sym, ap, subst, _∙_}
 use mathlib.Core.List.{List}
-use Prim.Native.Nat.{ℕ, _+_, _*_, _≤_, _<_}
+use Prim.Native.Nat.{ℕ, _*_, _≤_}
 use native.Mathlib.Omega.{arith}
 use lib.Dec.{leb, eqb}
 use mathlib.Core.Bool.{_&&_}
-use lib.ListN.{length, getD}
+use lib.ListN.{length}
 use Rattle.checks.specs.Check.{Check, LevelCount, LevelRange, Opening, Buffers, Output, numberOf}
-use Rattle.checks.specs.Answer.{Answer, refused, taken, ask, next, number}
+use Rattle.checks.specs.Answer.{Answer, refused, taken, next, number}
 use Rattle.checks.proofs.Answers.{number-positive, not-both, same-taken, number-taken, number-refused, RefusedBy, ask-refused}
-use Rattle.slicing.specs.Item.{Item, height, width}
+use Rattle.slicing.specs.Item.{height, width}
 use Rattle.slicing.specs.Tree.{Tree, gaugeCount, sizeCount}
 use Rattle.slicing.specs.Shapes.{shapes}
-use Rattle.slicing.specs.Layout.{Outline}
+use Rattle.slicing.specs.Layout.{Outline, outline}
 use Rattle.slicing.specs.Fit.{Pick, nothing, picked, smallest, place}
-use Rattle.slicing.specs.FitMeans.{FaceFits, NothingFits, FitMeans}
+use Rattle.slicing.specs.FitMeans.{NothingFits, FitMeans}
 use Rattle.slicing.proofs.Demand3.{demand-3}
 use Rattle.facefile.specs.declared.Face.{Face}
 use Rattle.facefile.specs.Format.{within, faceOf}
@@ -24,14 +24,13 @@ use Rattle.facefile.proofs.Answered.{Counts, answer-taken, answer-refused}
 use Rattle.facefile.proofs.Refused.{face-refused}
 use Rattle.facefile.proofs.Taken.{face-taken}
 use Rattle.parts.specs.Building.{Buildable, Whole}
-use Rattle.shapes.specs.Listing.{levelsInRange, RootList, ListArena, ListScratch}
+use Rattle.shapes.specs.Listing.{levelsInRange, ListArena, ListScratch}
 use Rattle.shapes.proofs.LentLaws.{level-in}
 use Rattle.shapes.proofs.RootLaws.{root-list}
 use Rattle.fit.specs.declared.Fitted.{Fitted}
-use Rattle.fit.specs.Picking.{outline}
 use Rattle.fit.specs.Fitting.{fitLent, fitChecks, noFace, faceFound, fitted, faceWords, fitOutput}
-use Rattle.fit.specs.Facing.{Placeable, PlacedFace, PlacedIn}
-use Rattle.fit.specs.Demand3.{Returned, Demand3}
+use Rattle.fit.specs.Facing.{Placeable, PlacedIn}
+use Rattle.fit.specs.Demand3.{Demand3}
 use Rattle.fit.proofs.FitLent.{FitLent, fit-lent}
 
 -- What the call promises of the answer of its checks.

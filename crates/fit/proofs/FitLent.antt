@@ -1,20 +1,19 @@
 -- Checks 14 to 18 of the fit call as the code asks them: each way out has the number that the definition has there, and what is taken has passed them all.
 -- The questions are asked one after the other, in the definition's order.
-use mathlib.Core.Path.{_≡_, refl, sym, ap, _∙_}
+use mathlib.Core.Path.{_≡_, sym, _∙_}
 use mathlib.Core.Bool.{Bool, true, false, _&&_, not}
 use mathlib.Core.List.{List}
 use Prim.Native.Nat.{ℕ, _*_, _≤_, _<_}
-use native.Mathlib.Omega.{arith}
 use lib.Dec.{leb, eqb}
 use lib.ListN.{length}
 use borrow.Author.Tests.{leb-true, eqb-true, le-leb, lt-leb, eq-eqb, ne-eqb, not-true, not-false}
 use Rattle.checks.specs.Check.{LevelCount, LevelRange, Opening, Buffers, Output}
-use Rattle.checks.specs.Answer.{Answer, taken, ask, number}
+use Rattle.checks.specs.Answer.{taken, number}
 use Rattle.checks.proofs.Answers.{ask-taken}
+use Rattle.slicing.specs.Layout.{outline}
 use Rattle.facefile.specs.Format.{within}
 use Rattle.facefile.proofs.Took.{both-true}
 use Rattle.shapes.specs.Listing.{levelsInRange}
-use Rattle.fit.specs.Picking.{outline}
 use Rattle.fit.specs.Fitting.{fitLent}
 
 pub range-low : (x : ℕ) → x < 1 → leb 1 x ≡ within 1 64_000 x

@@ -21,9 +21,9 @@ use Rattle.slicing.proofs.TurnLaws.{turn-ordered, turn-out}
 use Rattle.slicing.proofs.Placing.{Sides, sides}
 use Rattle.stored.specs.Packed.{facing}
 use Rattle.stored.specs.Store.{Stored}
+use Rattle.stored.proofs.StoredLists.{place-in}
 use Rattle.fit.specs.Taking.{facingItem}
 use Rattle.fit.specs.Laying.{shapeAt, movedBy, Layable}
-use Rattle.fit.proofs.OrderLaws.{at-in}
 
 -- What a part takes for the item z of the whole.
 abbrev pub side : Bool → Item → Tree → Item
@@ -56,7 +56,7 @@ module _ (s : List ℕ) (part gauges k x y : ℕ) (out : List ℕ) where
         good-b = h .good .1;
         enough = h .stored .1;
         count = gauges-joined a b;
-        both = sides 0 (shapes 0 a) (shapes 0 b) (shapes-ordered 0 a (h .good .0)) (shapes-ordered 0 b (h .good .1)) (shapeAt (beside a b) k) (at-in (shapes 0 (beside a b)) k (h .in-list));
+        both = sides 0 (shapes 0 a) (shapes 0 b) (shapes-ordered 0 a (h .good .0)) (shapes-ordered 0 b (h .good .1)) (shapeAt (beside a b) k) (place-in (shapes 0 (beside a b)) k (h .in-list));
         whole =
             ap (λ (n : ℕ). words a (place 0 a (side false (shapeAt (beside a b) k) a) x y) ++ words b (place 0 b (side false (shapeAt (beside a b) k) b) n y))
             (add-zero (x + side false (shapeAt (beside a b) k) a .p));
@@ -79,7 +79,7 @@ module _ (s : List ℕ) (part gauges k x y : ℕ) (out : List ℕ) where
         both =
             sides 0 (turn (shapes 0 a)) (turn (shapes 0 b)) (turn-ordered (shapes 0 a) (shapes-ordered 0 a (h .good .0)))
             (turn-ordered (shapes 0 b) (shapes-ordered 0 b (h .good .1))) (swap z)
-            (turn-out z (merge 0 (turn (shapes 0 a)) (turn (shapes 0 b))) (at-in (shapes 0 (stacked a b)) k (h .in-list)));
+            (turn-out z (merge 0 (turn (shapes 0 a)) (turn (shapes 0 b))) (place-in (shapes 0 (stacked a b)) k (h .in-list)));
         whole =
             ap (λ (n : ℕ). words a (place 0 a (swap (side true z a)) x y) ++ words b (place 0 b (swap (side true z b)) x n))
             (add-zero (y + side true z a .p));

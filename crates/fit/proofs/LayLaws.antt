@@ -5,7 +5,7 @@ use mathlib.Core.Bool.{Bool, true, false, cond, not}
 use mathlib.Core.List.{List, [], _∷_, _++_, append-assoc, append-nil}
 use Prim.Native.Nat.{ℕ, _+_, _*_, _-_, _/_, _%_, _^_, _≤_, _<_}
 use native.Mathlib.Omega.{arith}
-use lib.ListN.{length, getD, take, drop, length-take, length-drop, drop-of-length-le}
+use lib.ListN.{length, getD, set, take, drop, length-take, length-drop, drop-of-length-le}
 use lib.Seq.{take-at, drop-at, take-all, drop-drop}
 use lib.Dec.{eqb}
 use borrow.Rule.Slice.PartMut.{putMid}
@@ -14,16 +14,17 @@ use Rattle.slicing.specs.Tree.{Tree, gauge, beside, stacked, gaugeCount}
 use Rattle.slicing.specs.Good.{Good}
 use Rattle.slicing.specs.Shapes.{shapes}
 use Rattle.slicing.specs.Fit.{noTaller, place, words}
+use Rattle.slicing.proofs.Depths.{depth-few}
 use Rattle.slicing.proofs.Placing.{words-length}
 use Rattle.facefile.specs.Kinds.{kindOf}
 use Rattle.stored.specs.Packed.{pack, facing, ownShapes}
 use Rattle.stored.specs.Store.{Stored}
 use Rattle.fit.specs.Taking.{facingItem, against, Takable, Takes}
 use Rattle.fit.specs.Laying.{shapeAt, movedBy, Layable, laid}
-use Rattle.fit.proofs.FacingLaws.{Low, facing-low, m-is, p-is}
+use Rattle.stored.proofs.StoredLists.{Low, facing-low, m-is, p-is}
 use Rattle.fit.proofs.OrderLaws.{index-at}
 use Rattle.stored.proofs.OwnLists.{entry-of, own-length}
-use Rattle.fit.proofs.PartLists.{some-gauges, table-inside, own-facing}
+use Rattle.fit.proofs.PartLists.{table-inside, own-facing}
 use Rattle.fit.proofs.JoinLaws.{side, View, view, Edges, edges}
 
 -- The word of the item at the place of the part's list.
@@ -34,6 +35,18 @@ shape-low : (s : List ℕ) (part k : ℕ) (t : Tree) → Stored s part t → k <
 shape-low s part k t h inside =
     subst (λ (l : List Item). Low (getD l k (size 0 0))) (own-facing t false)
     (facing-low (against (kindOf t) false) s (getD s (4 * part) 0) (ownShapes t) (entry-of s part t h .list) k (omega (arith, own-length t)))
+
+-- The stores of a gauge's five words, and its words.
+five-words : (out : List ℕ) (a b c d e : ℕ) → 5 ≤ length out → set (set (set (set (set out 0 a) 1 b) 2 c) 3 d) 4 e ≡ a ∷ b ∷ c ∷ d ∷ e ∷ drop 5 out
+five-words (v ∷ w ∷ x ∷ y ∷ z ∷ out) a b c d e h = refl
+five-words (v ∷ w ∷ x ∷ y ∷ []) a b c d e h = absurd (omega arith)
+five-words (v ∷ w ∷ x ∷ []) a b c d e h = absurd (omega arith)
+five-words (v ∷ w ∷ []) a b c d e h = absurd (omega arith)
+five-words (v ∷ []) a b c d e h = absurd (omega arith)
+five-words [] a b c d e h = absurd (omega arith)
+
+pub gauge-words : (out : List ℕ) (n x y z w h : ℕ) → 5 ≤ length out → w ≡ z % 65_536 → h ≡ z / 65_536 → set (set (set (set (set out 0 n) 1 x) 2 y) 3 w) 4 h ≡ n ∷ x ∷ y ∷ (z % 65_536) ∷ (z / 65_536) ∷ drop 5 out
+gauge-words out n x y z w h room e f = five-words out n x y w h room ∙ rw (e, f)
 
 -- The list law that puts the newer part's words back.
 two-parts : (first second out one two : List ℕ) (m n : ℕ) → length first ≡ m → length second ≡ n → one ≡ first ++ drop m out → two ≡ second ++ drop n (take (length one - m) (drop m one)) → putMid m (length one - m) one two ≡ (first ++ second) ++ drop (m + n) out
@@ -115,7 +128,7 @@ module _ (s : List ℕ) (part gauges k x y : ℕ) (out : List ℕ) (kind : ℕ) 
   pub join-some : ((t : Tree) × Layable s part t gauges k x y out) → 1 ≤ part
   join-some pre =
       let v = view s part gauges k x y out kind (pre .0) kind-is other (pre .1) in
-      omega (arith, v .enough, v .count, some-gauges (v .a), some-gauges (v .b))
+      omega (arith, v .enough, v .count, depth-few (v .a), depth-few (v .b))
 
   pub newer-inside : ((t : Tree) × Layable s part t gauges k x y out) → 4 * (part - 1) + 3 < length s
   newer-inside pre =
@@ -135,8 +148,8 @@ module _ (s : List ℕ) (part gauges k x y : ℕ) (out : List ℕ) (kind : ℕ) 
         record {
           in-table = v .in-table;
           enough = omega (arith, v .enough);
-          some = omega (arith, some-gauges (v .b));
-          less = omega (arith, v .count, some-gauges (v .a));
+          some = omega (arith, depth-few (v .b));
+          less = omega (arith, v .count, depth-few (v .a));
           fits = omega arith;
         }
 

@@ -1,5 +1,4 @@
 pub mod PickLaws
-pub mod FacingLaws
 pub mod Looking
 pub mod OrderLaws
 pub mod Searching

@@ -11,10 +11,11 @@ use lib.Dec.{ltb}
 use borrow.Author.Tests.{le-leb, lt-leb}
 use Rattle.slicing.specs.Item.{Item, size}
 use Rattle.slicing.specs.Fit.{fits}
+use Rattle.slicing.specs.Layout.{outline}
 use Rattle.stored.specs.Packed.{pack, facing, HasList}
-use Rattle.fit.specs.Picking.{outline, Picks}
-use Rattle.stored.proofs.StoredLists.{facing-length}
-use Rattle.fit.proofs.FacingLaws.{Low, facing-low, m-is, p-is}
+use Rattle.fit.specs.Picking.{Picks}
+use Rattle.stored.proofs.Reading.{ItemWord}
+use Rattle.stored.proofs.StoredLists.{facing-length, Low, facing-low, m-is, p-is}
 use Rattle.fit.proofs.PickLaws.{rank, Standing, Narrow, standing-start, standing-past, standing-worse, standing-taken, standing-done}
 
 pub record Looking (s : List ℕ) (from count : ℕ) (across : Bool) (height width k place best : ℕ) : Type 0 where
@@ -28,7 +29,7 @@ product-low h w low-h low-w =
     let b : w ≤ 65_535 = omega arith in mul-le-mul a b
 
 rank-fits : (z : Item) → Low z → rank z < 2 ^ 64
-rank-fits z low = let small = product-low (z .m) (z .p) (low .m-low) (low .p-low) in omega arith
+rank-fits z low = let small = product-low (z .m) (z .p) (low .0) (low .1) in omega arith
 
 too-high : (height width : ℕ) (z : Item) → height < z .m → fits (outline height width) z ≡ false
 too-high height width z h = simp (lt-leb (z .m) height h)
@@ -54,10 +55,6 @@ module _ (s : List ℕ) (from count : ℕ) (across : Bool) (height width : ℕ) 
         so-far = λ l has e. rw (e, ← facing-length across l) (standing-start (outline height width) (facing across l));
       }
 
-  -- The word of the next item, and that item's m and p.
-  abbrev Read : ℕ → ℕ → Type 0
-  Read k z = (l : List Item) → HasList s from l → count ≡ length l → z ≡ pack (getD (facing across l) k (size 0 0))
-
   -- Item k of any such list, against the pick of the items after it.
   record Next (k place best z : ℕ) (l : List Item) : Type 0 where
     in-list : k - 1 < length (facing across l)
@@ -66,7 +63,7 @@ module _ (s : List ℕ) (from count : ℕ) (across : Bool) (height width : ℕ) 
     after : Standing (outline height width) (facing across l) (suc (k - 1)) place best
     narrow : Narrow (facing across l)
 
-  next : (k place best z : ℕ) → Looking s from count across height width k place best → 0 < k → Read (k - 1) z → (l : List Item) → HasList s from l → count ≡ length l → Next k place best z l
+  next : (k place best z : ℕ) → Looking s from count across height width k place best → 0 < k → ItemWord s from count across (k - 1) z → (l : List Item) → HasList s from l → count ≡ length l → Next k place best z l
   next k place best z inv some read l has e =
       let whole : k ≡ suc (k - 1) = omega arith in
       let inside : k - 1 < length l = omega arith in
@@ -76,10 +73,10 @@ module _ (s : List ℕ) (from count : ℕ) (across : Bool) (height width : ℕ) 
         low = facing-low across s from l has (k - 1) inside;
         word = read l has e;
         after = subst (λ (n : ℕ). Standing (outline height width) (facing across l) n place best) whole (inv .so-far l has e);
-        narrow = λ i h. facing-low across s from l has i (omega arith) .p-low;
+        narrow = λ i h. facing-low across s from l has i (omega arith) .1;
       }
 
-  pub looking-high : (k place best z h : ℕ) → Looking s from count across height width k place best → 0 < k → Read (k - 1) z → h ≡ z / 65_536 → height < h → Looking s from count across height width (k - 1) place best
+  pub looking-high : (k place best z h : ℕ) → Looking s from count across height width k place best → 0 < k → ItemWord s from count across (k - 1) z → h ≡ z / 65_536 → height < h → Looking s from count across height width (k - 1) place best
   looking-high k place best z h inv some read h-is high = record { bound = omega arith; so-far = past }
     where
       past : (l : List Item) → HasList s from l → count ≡ length l → Standing (outline height width) (facing across l) (k - 1) place best
@@ -89,7 +86,7 @@ module _ (s : List ℕ) (from count : ℕ) (across : Bool) (height width : ℕ) 
           let m-same = m-is y z h (n .low) (n .word) h-is in
           standing-past (outline height width) (facing across l) (k - 1) place best (n .in-list) (too-high height width y (omega arith)) (n .after)
 
-  pub looking-wide : (k place best z h w : ℕ) → Looking s from count across height width k place best → 0 < k → Read (k - 1) z → h ≡ z / 65_536 → w ≡ z % 65_536 → h ≤ height → width < w → Looking s from count across height width (k - 1) place best
+  pub looking-wide : (k place best z h w : ℕ) → Looking s from count across height width k place best → 0 < k → ItemWord s from count across (k - 1) z → h ≡ z / 65_536 → w ≡ z % 65_536 → h ≤ height → width < w → Looking s from count across height width (k - 1) place best
   looking-wide k place best z h w inv some read h-is w-is fits-h wide = record { bound = omega arith; so-far = past }
     where
       past : (l : List Item) → HasList s from l → count ≡ length l → Standing (outline height width) (facing across l) (k - 1) place best
@@ -103,7 +100,7 @@ module _ (s : List ℕ) (from count : ℕ) (across : Bool) (height width : ℕ) 
   rank-same : (y : Item) (h w r : ℕ) → h ≡ y .m → w ≡ y .p → r ≡ 65_536 * (h * w) + w → r ≡ rank y
   rank-same y h w r e f g = g ∙ rw (e, f)
 
-  pub looking-worse : (k place best z h w r : ℕ) → Looking s from count across height width k place best → 0 < k → Read (k - 1) z → h ≡ z / 65_536 → w ≡ z % 65_536 → h ≤ height → w ≤ width → r ≡ 65_536 * (h * w) + w → best < r → Looking s from count across height width (k - 1) place best
+  pub looking-worse : (k place best z h w r : ℕ) → Looking s from count across height width k place best → 0 < k → ItemWord s from count across (k - 1) z → h ≡ z / 65_536 → w ≡ z % 65_536 → h ≤ height → w ≤ width → r ≡ 65_536 * (h * w) + w → best < r → Looking s from count across height width (k - 1) place best
   looking-worse k place best z h w r inv some read h-is w-is fits-h fits-w r-is more = record { bound = omega arith; so-far = past }
     where
       past : (l : List Item) → HasList s from l → count ≡ length l → Standing (outline height width) (facing across l) (k - 1) place best
@@ -115,7 +112,7 @@ module _ (s : List ℕ) (from count : ℕ) (across : Bool) (height width : ℕ) 
           let r-same = rank-same y h w r m-same p-same r-is in
           standing-worse (outline height width) (facing across l) (k - 1) place best (n .in-list) (n .narrow) (in-opening height width y (omega arith) (omega arith)) (rank-fits y (n .low)) (subst (λ (i : ℕ). best < i) r-same more) (n .after)
 
-  pub looking-taken : (k place best z h w r : ℕ) → Looking s from count across height width k place best → 0 < k → Read (k - 1) z → h ≡ z / 65_536 → w ≡ z % 65_536 → h ≤ height → w ≤ width → r ≡ 65_536 * (h * w) + w → r ≤ best → Looking s from count across height width (k - 1) (k - 1) r
+  pub looking-taken : (k place best z h w r : ℕ) → Looking s from count across height width k place best → 0 < k → ItemWord s from count across (k - 1) z → h ≡ z / 65_536 → w ≡ z % 65_536 → h ≤ height → w ≤ width → r ≡ 65_536 * (h * w) + w → r ≤ best → Looking s from count across height width (k - 1) (k - 1) r
   looking-taken k place best z h w r inv some read h-is w-is fits-h fits-w r-is less = record { bound = omega arith; so-far = taken }
     where
       taken : (l : List Item) → HasList s from l → count ≡ length l → Standing (outline height width) (facing across l) (k - 1) (k - 1) r

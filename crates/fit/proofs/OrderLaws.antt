@@ -2,29 +2,25 @@
 -- Each goes down the list, since every item is set against all after it.
 use mathlib.Core.Path.{_≡_, refl, ap}
 use mathlib.Core.Bool.{Bool, true, false}
-use mathlib.Core.List.{List, [], _∷_, List·Memᴰ, List·Memᴰ·head, List·Memᴰ·tail}
+use mathlib.Core.List.{List, [], _∷_}
 use Prim.Native.Nat.{ℕ, zero, suc, _+_, _-_, _≤_, _<_}
 use native.Mathlib.Omega.{arith}
 use lib.ListN.{length, getD}
-use lib.Dec.{ltb}
-use borrow.Author.Tests.{ltb-true, ltb-false, le-leb, lt-leb, eq-eqb, ne-eqb}
+use borrow.Author.Tests.{le-leb, lt-leb, eq-eqb, ne-eqb}
 use Rattle.slicing.specs.Item.{Item, size, height, width}
 use Rattle.slicing.specs.Good.{Ordered}
 use Rattle.slicing.specs.Fit.{noTaller, indexOf}
 use Rattle.slicing.proofs.Placing.{index-found}
 use Rattle.slicing.proofs.TurnLaws.{turn-ordered}
+use Rattle.arena.proofs.Cases.{last-or-below}
 use Rattle.stored.specs.Packed.{facing}
+use Rattle.stored.proofs.StoredLists.{place-in}
 use Rattle.fit.specs.Taking.{HasLow}
-
-pub at-in : (l : List Item) (i : ℕ) → i < length l → List·Memᴰ (getD l i (size 0 0)) l
-at-in [] i h = absurd (omega arith)
-at-in (x ∷ l) zero h = List·Memᴰ·head refl
-at-in (x ∷ l) (suc i) h = List·Memᴰ·tail (at-in l i (omega arith))
 
 pub falling : (l : List Item) → Ordered l → (i j : ℕ) → i < j → j < length l → getD l j (size 0 0) .m < getD l i (size 0 0) .m
 falling [] o i j h k = absurd (omega arith)
 falling (x ∷ l) o zero zero h k = absurd (omega arith)
-falling (x ∷ l) o zero (suc j) h k = o .0 (getD l j (size 0 0)) (at-in l j (omega arith)) .0
+falling (x ∷ l) o zero (suc j) h k = o .0 (getD l j (size 0 0)) (place-in l j (omega arith)) .0
 falling (x ∷ l) o (suc i) zero h k = absurd (omega arith)
 falling (x ∷ l) o (suc i) (suc j) h k = falling l (o .1) i j (omega arith) (omega arith)
 
@@ -37,14 +33,10 @@ first-low limit (x ∷ l) (suc i) h low above =
     simp (lt-leb (x .m) limit (above 0 (omega arith))) (first-low limit l i (omega arith) low (λ j k. above (suc j) (omega arith)))
 
 least-last : (l : List Item) → Ordered l → (i : ℕ) → i < length l → getD l (length l - 1) (size 0 0) .m ≤ getD l i (size 0 0) .m
-least-last l o i h = step (ltb i (length l - 1)) refl
-  where
-    step : (b : Bool) → ltb i (length l - 1) ≡ b → getD l (length l - 1) (size 0 0) .m ≤ getD l i (size 0 0) .m
-    step true e = let f = falling l o i (length l - 1) (ltb-true i (length l - 1) e) (omega arith) in omega arith
-    step false e =
-        let more = ltb-false i (length l - 1) e in
-        let same : i ≡ length l - 1 = omega arith in
-        let at = ap (λ (n : ℕ). getD l n (size 0 0) .m) same in omega arith
+least-last l o i h =
+    last-or-below i (length l - 1) (omega arith)
+    (λ same. let at = ap (λ (n : ℕ). getD l n (size 0 0) .m) same in omega arith)
+    (λ before. let f = falling l o i (length l - 1) before (omega arith) in omega arith)
 
 -- The last item is at most the limit where any is.
 pub record LastLow (limit : ℕ) (l : List Item) : Type 0 where
@@ -61,14 +53,10 @@ last-low limit l o some =
 
 -- Up to an item above the limit, all are above it.
 pub above-to : (limit : ℕ) (l : List Item) → Ordered l → (i : ℕ) → i < length l → limit < getD l i (size 0 0) .m → (j : ℕ) → j < i + 1 → limit < getD l j (size 0 0) .m
-above-to limit l o i h over j k = step (ltb j i) refl
-  where
-    step : (b : Bool) → ltb j i ≡ b → limit < getD l j (size 0 0) .m
-    step true e = let f = falling l o j i (ltb-true j i e) h in omega arith
-    step false e =
-        let more = ltb-false j i e in
-        let same : j ≡ i = omega arith in
-        let at = ap (λ (n : ℕ). getD l n (size 0 0) .m) same in omega arith
+above-to limit l o i h over j k =
+    last-or-below j i (omega arith)
+    (λ same. let at = ap (λ (n : ℕ). getD l n (size 0 0) .m) same in omega arith)
+    (λ before. let f = falling l o j i before h in omega arith)
 
 pub index-at : (l : List Item) → Ordered l → (i : ℕ) → i < length l → indexOf (getD l i (size 0 0)) l ≡ i
 unfolding indexOf
@@ -76,7 +64,7 @@ index-at [] o i h = absurd (omega arith)
 index-at (x ∷ l) o zero h = simp (eq-eqb (height x) (height x) refl, eq-eqb (width x) (width x) refl)
 index-at (x ∷ l) o (suc i) h =
     let z = getD l i (size 0 0) in
-    let after = o .0 z (at-in l i (omega arith)) in
+    let after = o .0 z (place-in l i (omega arith)) in
     simp (ne-eqb (height x) (height z) (λ e. absurd (omega arith))) (ap suc (index-at l (o .1) i (omega arith)))
 
 pub facing-ordered : (across : Bool) (l : List Item) → Ordered l → Ordered (facing across l)

@@ -11,7 +11,7 @@ use Rattle.slicing.specs.Item.{Item, size}
 use Rattle.slicing.specs.Tree.{Tree, sizeCount, leastDepth, mostDepth}
 use Rattle.slicing.specs.Merge.{merge, turn}
 use Rattle.slicing.specs.Shapes.{shapes}
-use Rattle.slicing.specs.Layout.{Outline}
+use Rattle.slicing.specs.Layout.{Outline, outline}
 use Rattle.slicing.specs.Fit.{smallest, noTaller, indexOf, place}
 use Rattle.facefile.specs.Format.{header, sizesAfter, sizesFrom, gaugeSizes, gaugeEntry, joinParts, joinEntry, kindEntry, entry, entries, onePart, atEnd, faceOf}
 use Rattle.facefile.proofs.Example.{example}
@@ -22,7 +22,6 @@ use Rattle.maxplus.specs.declared.Reading.{Reading}
 use Rattle.maxplus.specs.Read.{readItem, reading}
 use Rattle.shapes.specs.Listing.{listWords, writtenOver}
 use Rattle.fit.specs.declared.Fitted.{Fitted}
-use Rattle.fit.specs.Picking.{outline}
 use Rattle.fit.specs.Fitting.{noFace, fitted, fitOutput}
 
 pub data Row : Type 0 where
@@ -122,6 +121,7 @@ rows =
     ∷ lists stackedInstead (size 110 40 ∷ size 90 50 ∷ size 70 60 ∷ [])
     ∷ lists equalHeights (size 60 70 ∷ [])
     ∷ fits loneSize (outline 64_000 64_000) (face 1 1 1 1) (1 ∷ 0 ∷ 0 ∷ 1 ∷ 1 ∷ [])
+    ∷ fits example (outline 64_000 64_000) (face 60 70 4_200 3) (1 ∷ 0 ∷ 0 ∷ 40 ∷ 60 ∷ 1 ∷ 40 ∷ 0 ∷ 30 ∷ 50 ∷ [])
     ∷ fits example (outline 55 64_000) (face 40 110 4_400 3) (2 ∷ 0 ∷ 0 ∷ 60 ∷ 40 ∷ 2 ∷ 60 ∷ 0 ∷ 50 ∷ 30 ∷ [])
     ∷ fits example (outline 40 110) (face 40 110 4_400 3) (2 ∷ 0 ∷ 0 ∷ 60 ∷ 40 ∷ 2 ∷ 60 ∷ 0 ∷ 50 ∷ 30 ∷ [])
     ∷ fits example (outline 40 109) (noFace 19) []

@@ -7,10 +7,10 @@ use Prim.Native.Nat.{ℕ, _+_, _-_, _/_, _≤_, _<_}
 use native.Mathlib.Omega.{arith}
 use lib.ListN.{length, getD}
 use Rattle.slicing.specs.Item.{Item, size}
-use Rattle.stored.specs.Packed.{pack, facing, HasList}
+use Rattle.stored.specs.Packed.{facing, HasList}
 use Rattle.fit.specs.Taking.{Searchable, FirstLow}
-use Rattle.stored.proofs.StoredLists.{facing-length}
-use Rattle.fit.proofs.FacingLaws.{facing-low, m-is}
+use Rattle.stored.proofs.Reading.{ItemWord}
+use Rattle.stored.proofs.StoredLists.{facing-length, facing-low, m-is}
 use Rattle.fit.proofs.OrderLaws.{above-to, first-low, last-low, facing-ordered}
 
 -- The first item of at most the limit stands from low to high.
@@ -46,14 +46,11 @@ module _ (s : List ℕ) (from count : ℕ) (across : Bool) (limit : ℕ) where
   pub can-read-middle : (low high : ℕ) → ((l : List Item) × Searchable s from count across limit l) → Searching s from count across limit low high → low < high → ((l : List Item) × HasList s from l × (count ≡ length l) × (low + (high - low) / 2 < count))
   can-read-middle low high pre inv some = (pre .0, pre .1 .list, pre .1 .count-is, middle low high inv some)
 
-  abbrev Read : ℕ → ℕ → Type 0
-  Read k z = (l : List Item) → HasList s from l → count ≡ length l → z ≡ pack (getD (facing across l) k (size 0 0))
-
-  middle-is : (mid z m : ℕ) → mid < count → Read mid z → m ≡ z / 65_536 → (l : List Item) → Searchable s from count across limit l → m ≡ getD (facing across l) mid (size 0 0) .m
+  middle-is : (mid z m : ℕ) → mid < count → ItemWord s from count across mid z → m ≡ z / 65_536 → (l : List Item) → Searchable s from count across limit l → m ≡ getD (facing across l) mid (size 0 0) .m
   middle-is mid z m h read m-read l has =
       m-is (getD (facing across l) mid (size 0 0)) z m (facing-low across s from l (has .list) mid (let same = has .count-is in omega arith)) (read l (has .list) (has .count-is)) m-read
 
-  pub search-lower : (low high mid z m : ℕ) → Searching s from count across limit low high → low < high → mid ≡ low + (high - low) / 2 → Read mid z → m ≡ z / 65_536 → m ≤ limit → Searching s from count across limit low mid
+  pub search-lower : (low high mid z m : ℕ) → Searching s from count across limit low high → low < high → mid ≡ low + (high - low) / 2 → ItemWord s from count across mid z → m ≡ z / 65_536 → m ≤ limit → Searching s from count across limit low mid
   search-lower low high mid z m inv some mid-is read m-read below =
       record {
         in-order = omega arith;
@@ -61,7 +58,7 @@ module _ (s : List ℕ) (from count : ℕ) (across : Bool) (limit : ℕ) where
         between = λ l has. let same = middle-is mid z m (omega arith) read m-read l has in record { above = inv .between l has .above; at = omega arith };
       }
 
-  pub search-upper : (low high mid z m : ℕ) → Searching s from count across limit low high → low < high → mid ≡ low + (high - low) / 2 → Read mid z → m ≡ z / 65_536 → limit < m → Searching s from count across limit (mid + 1) high
+  pub search-upper : (low high mid z m : ℕ) → Searching s from count across limit low high → low < high → mid ≡ low + (high - low) / 2 → ItemWord s from count across mid z → m ≡ z / 65_536 → limit < m → Searching s from count across limit (mid + 1) high
   search-upper low high mid z m inv some mid-is read m-read over =
       record {
         in-order = omega arith;

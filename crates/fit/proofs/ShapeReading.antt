@@ -1,18 +1,19 @@
--- What is read at a place of a stored part's list is the item at that place of the part's shape list by height, and a gauge's five words.
+-- What is read at a place of a stored part's list is the item at that place of the part's shape list by height.
 -- The table says where the list stands and which way it runs.
-use mathlib.Core.Path.{_≡_, refl, ap, _∙_}
+use mathlib.Core.Path.{_≡_, ap, _∙_}
 use mathlib.Core.Bool.{Bool, false}
-use mathlib.Core.List.{List, [], _∷_}
-use Prim.Native.Nat.{ℕ, _+_, _*_, _/_, _%_, _≤_, _<_}
+use mathlib.Core.List.{List}
+use Prim.Native.Nat.{ℕ, _+_, _*_, _<_}
 use native.Mathlib.Omega.{arith}
-use lib.ListN.{length, getD, set, drop}
+use lib.ListN.{length, getD}
 use Rattle.slicing.specs.Item.{Item, size}
 use Rattle.slicing.specs.Tree.{Tree}
 use Rattle.slicing.specs.Shapes.{shapes}
-use Rattle.stored.specs.Packed.{pack, facing, ownShapes, HasList}
+use Rattle.stored.specs.Packed.{pack, ownShapes, HasList}
 use Rattle.stored.specs.Store.{Stored}
 use Rattle.fit.specs.Taking.{against}
 use Rattle.fit.specs.Laying.{shapeAt}
+use Rattle.stored.proofs.Reading.{ItemWord}
 use Rattle.stored.proofs.OwnLists.{own-length}
 use Rattle.fit.proofs.PartLists.{table-inside}
 use Rattle.fit.proofs.TakeLaws.{Listed, stored-list, stored-count, stored-facing}
@@ -29,19 +30,8 @@ module _ (s : List ℕ) (part from count : ℕ) (across : Bool) (k : ℕ) where
       let inside = pre .2 in
       (ownShapes t, stored-list s part from count false across listed t (pre .1), counted, omega (arith, own-length t))
 
-  pub shape-read : (z : ℕ) → from ≡ getD s (4 * part + 0) 0 → count ≡ getD s (4 * part + 1) 0 → across ≡ against (getD s (4 * part + 2) 0) false → ((l : List Item) → HasList s from l → count ≡ length l → z ≡ pack (getD (facing across l) k (size 0 0))) → (t : Tree) → Stored s part t → k < length (shapes 0 t) → z ≡ pack (shapeAt t k)
+  pub shape-read : (z : ℕ) → from ≡ getD s (4 * part + 0) 0 → count ≡ getD s (4 * part + 1) 0 → across ≡ against (getD s (4 * part + 2) 0) false → ItemWord s from count across k z → (t : Tree) → Stored s part t → k < length (shapes 0 t) → z ≡ pack (shapeAt t k)
   shape-read z e f g read t h inside =
       let listed : Listed s part from count false across = record { from-is = e; count-is = f; across-is = g } in
       read (ownShapes t) (stored-list s part from count false across listed t h) (stored-count s part from count false across listed t h)
       ∙ ap (λ (l : List Item). pack (getD l k (size 0 0))) (stored-facing s part from count false across listed t h)
-
-five-words : (out : List ℕ) (a b c d e : ℕ) → 5 ≤ length out → set (set (set (set (set out 0 a) 1 b) 2 c) 3 d) 4 e ≡ a ∷ b ∷ c ∷ d ∷ e ∷ drop 5 out
-five-words (v ∷ w ∷ x ∷ y ∷ z ∷ out) a b c d e h = refl
-five-words (v ∷ w ∷ x ∷ y ∷ []) a b c d e h = absurd (omega arith)
-five-words (v ∷ w ∷ x ∷ []) a b c d e h = absurd (omega arith)
-five-words (v ∷ w ∷ []) a b c d e h = absurd (omega arith)
-five-words (v ∷ []) a b c d e h = absurd (omega arith)
-five-words [] a b c d e h = absurd (omega arith)
-
-pub gauge-words : (out : List ℕ) (n x y z w h : ℕ) → 5 ≤ length out → w ≡ z % 65_536 → h ≡ z / 65_536 → set (set (set (set (set out 0 n) 1 x) 2 y) 3 w) 4 h ≡ n ∷ x ∷ y ∷ (z % 65_536) ∷ (z / 65_536) ∷ drop 5 out
-gauge-words out n x y z w h room e f = five-words out n x y w h room ∙ rw (e, f)

@@ -11,12 +11,11 @@ use Rattle.slicing.specs.Item.{Item, size}
 use Rattle.slicing.specs.Tree.{Tree}
 use Rattle.slicing.specs.Shapes.{shapes}
 use Rattle.slicing.specs.Merge.{swap}
-use Rattle.stored.specs.Packed.{pack, facing, ownShapes, HasList}
+use Rattle.stored.specs.Packed.{facing, ownShapes, HasList}
 use Rattle.stored.specs.Store.{Stored}
-use Rattle.stored.proofs.Reading.{turn-at}
+use Rattle.stored.proofs.Reading.{turn-at, ItemWord}
 use Rattle.fit.specs.Taking.{HasLow, Searchable, FirstLow, facingItem, against, Takable, Takes}
-use Rattle.stored.proofs.StoredLists.{facing-length}
-use Rattle.fit.proofs.FacingLaws.{facing-low, p-is}
+use Rattle.stored.proofs.StoredLists.{facing-length, facing-low, p-is}
 use Rattle.stored.proofs.OwnLists.{entry-of, own-length}
 use Rattle.fit.proofs.PartLists.{table-inside, own-facing, own-ordered}
 
@@ -72,9 +71,6 @@ module _ (s : List ℕ) (part from count : ℕ) (upward across : Bool) (limit : 
   pub can-search : ((t : Tree) × Takable s part upward limit t) → from ≡ getD s (4 * part + 0) 0 → count ≡ getD s (4 * part + 1) 0 → across ≡ against (getD s (4 * part + 2) 0) upward → ((l : List Item) × Searchable s from count across limit l)
   can-search pre e f g = (ownShapes (pre .0), searchable (pre .0) (pre .1) (record { from-is = e; count-is = f; across-is = g }))
 
-  abbrev Read : ℕ → ℕ → Type 0
-  Read k z = (l : List Item) → HasList s from l → count ≡ length l → z ≡ pack (getD (facing across l) k (size 0 0))
-
   -- The item found is that of the shape list by height or by width, and its p is what is read.
   record Taken (k extent : ℕ) (t : Tree) : Type 0 where
     first : FirstLow limit (facing upward (shapes 0 t)) k
@@ -82,7 +78,7 @@ module _ (s : List ℕ) (part from count : ℕ) (upward across : Bool) (limit : 
     in-list : k < length (shapes 0 t)
     count-is : count ≡ length (shapes 0 t)
 
-  taken : (k z extent : ℕ) → Listed s part from count upward across → Found s from count across limit k → Read k z → extent ≡ z % 65_536 → (t : Tree) → Takable s part upward limit t → Taken k extent t
+  taken : (k z extent : ℕ) → Listed s part from count upward across → Found s from count across limit k → ItemWord s from count across k z → extent ≡ z % 65_536 → (t : Tree) → Takable s part upward limit t → Taken k extent t
   taken k z extent listed found read e t h =
       let ready = searchable t h listed in
       let same = stored-facing s part from count upward across listed t (h .stored) in
@@ -98,7 +94,7 @@ module _ (s : List ℕ) (part from count : ℕ) (upward across : Bool) (limit : 
         count-is = counted ∙ own-length t;
       }
 
-  pub takes-along : (k z extent : ℕ) → upward ≡ false → from ≡ getD s (4 * part + 0) 0 → count ≡ getD s (4 * part + 1) 0 → across ≡ against (getD s (4 * part + 2) 0) upward → Found s from count across limit k → Read k z → extent ≡ z % 65_536 → (t : Tree) → Takable s part upward limit t → Takes upward limit t k extent
+  pub takes-along : (k z extent : ℕ) → upward ≡ false → from ≡ getD s (4 * part + 0) 0 → count ≡ getD s (4 * part + 1) 0 → across ≡ against (getD s (4 * part + 2) 0) upward → Found s from count across limit k → ItemWord s from count across k z → extent ≡ z % 65_536 → (t : Tree) → Takable s part upward limit t → Takes upward limit t k extent
   takes-along k z extent down e f g found read p t h =
       let r = taken k z extent (record { from-is = e; count-is = f; across-is = g }) found read p t h in
       record {
@@ -107,7 +103,7 @@ module _ (s : List ℕ) (part from count : ℕ) (upward across : Bool) (limit : 
         extent-is = r .p-read ∙ ap (λ (i : Item). i .p) (sym (r .first .same));
       }
 
-  pub takes-upward : (k z extent : ℕ) → upward ≡ true → from ≡ getD s (4 * part + 0) 0 → count ≡ getD s (4 * part + 1) 0 → across ≡ against (getD s (4 * part + 2) 0) upward → Found s from count across limit k → Read k z → extent ≡ z % 65_536 → (t : Tree) → Takable s part upward limit t → Takes upward limit t (count - 1 - k) extent
+  pub takes-upward : (k z extent : ℕ) → upward ≡ true → from ≡ getD s (4 * part + 0) 0 → count ≡ getD s (4 * part + 1) 0 → across ≡ against (getD s (4 * part + 2) 0) upward → Found s from count across limit k → ItemWord s from count across k z → extent ≡ z % 65_536 → (t : Tree) → Takable s part upward limit t → Takes upward limit t (count - 1 - k) extent
   takes-upward k z extent up e f g found read p t h =
       let r = taken k z extent (record { from-is = e; count-is = f; across-is = g }) found read p t h in
       let inside = r .in-list in

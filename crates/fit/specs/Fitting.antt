@@ -1,13 +1,12 @@
 -- Document 01's fit call: its checks, what it answers, and what it leaves in the lent buffers.
-use mathlib.Core.Path.{_≡_}
-use mathlib.Core.Bool.{Bool, _&&_}
+use mathlib.Core.Bool.{_&&_}
 use mathlib.Core.List.{List}
 use Prim.Native.Nat.{ℕ, _*_}
 use lib.Dec.{leb, eqb}
 use lib.ListN.{length}
 use Rattle.checks.specs.Check.{LevelCount, LevelRange, Opening, Buffers, Output, Fits, numberOf}
 use Rattle.checks.specs.Answer.{Answer, refused, taken, ask, next}
-use Rattle.slicing.specs.Item.{Item, height, width}
+use Rattle.slicing.specs.Item.{height, width}
 use Rattle.slicing.specs.Tree.{Tree, gaugeCount, sizeCount}
 use Rattle.slicing.specs.Shapes.{shapes}
 use Rattle.slicing.specs.Layout.{Outline}

@@ -1,4 +1,4 @@
--- An opening by its height and width, which contracts cite; and what the pick of an item answers, which no public contract cites.
+-- What the pick of an item answers. No public contract cites it.
 use mathlib.Core.Path.{_≡_}
 use mathlib.Core.Bool.{Bool, true, false}
 use mathlib.Core.List.{List}
@@ -7,9 +7,6 @@ use lib.ListN.{length, getD}
 use Rattle.slicing.specs.Item.{Item, size}
 use Rattle.slicing.specs.Layout.{Outline}
 use Rattle.slicing.specs.Fit.{Pick, nothing, picked, smallest}
-
-abbrev pub outline : ℕ → ℕ → Outline
-outline h w = record { height = h; width = w }
 
 -- Nothing, or the item at a place of the list.
 abbrev pub pickAt : Bool → List Item → ℕ → Pick

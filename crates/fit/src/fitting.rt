@@ -1,11 +1,10 @@
 // The fit call.
 ghost use mathlib.Core.Path.{_≡_};
 ghost use Prim.Native.Nat.{_*_, _/_, _%_, _≤_, _<_};
-ghost use lib.ListN.{length};
 ghost use Rattle.checks.specs.Answer.{number};
+ghost use Rattle.slicing.specs.Layout.{outline};
 ghost use Rattle.facefile.specs.Format.{within};
 ghost use Rattle.shapes.specs.Listing.{ListArena, ListScratch};
-ghost use Rattle.fit.specs.Picking.{outline};
 ghost use Rattle.fit.specs.Fitting.{fitLent, fitChecks, noFace, fitted, fitOutput};
 ghost use Rattle.fit.specs.Facing.{Placeable, PlacedIn};
 ghost use Rattle.fit.specs.Demand3.{Demand3};

@@ -1,22 +1,10 @@
 // The smallest layout of a face in an opening.
 mod fitting;
-pub mod lay;
-pub mod pick;
+mod lay;
+mod pick;
 mod take;
 
 pub use fitting::fit;
-
-// The place of an item in a list, if there is one.
-pub struct Picked {
-    pub found: bool,
-    pub place: usize,
-}
-
-// The place of an item in a part's shape list by height, and its length along the join.
-pub struct Taken {
-    pub place: usize,
-    pub extent: u32,
-}
 
 // What the fit call answers: the number, and of the layout that was written its height, its width and their product,
 // and the length of the root's list. They are 0 where the number is not.

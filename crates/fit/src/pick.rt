@@ -4,12 +4,18 @@ ghost use mathlib.Core.List.{List};
 ghost use Prim.Native.Nat.{_+_, _*_, _<_};
 ghost use lib.ListN.{length};
 ghost use Rattle.slicing.specs.Item.{Item};
+ghost use Rattle.slicing.specs.Layout.{outline};
 ghost use Rattle.stored.specs.Packed.{facing, HasList};
-ghost use Rattle.fit.specs.Picking.{outline, Picks};
-use crate::Picked;
+ghost use Rattle.fit.specs.Picking.{Picks};
 use stored::item::m_of;
 use stored::item::p_of;
 use stored::item::read_item;
+
+// The place of an item in a list, if there is one.
+pub struct Picked {
+    pub found: bool,
+    pub place: usize,
+}
 
 // A size's rank among others: by area, and of equal areas by width.
 fn rank_of(height: u32, width: u32) -> u64

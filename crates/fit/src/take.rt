@@ -5,7 +5,6 @@ ghost use Rattle.slicing.specs.Item.{Item};
 ghost use Rattle.slicing.specs.Tree.{Tree};
 ghost use Rattle.stored.specs.Packed.{facing};
 ghost use Rattle.fit.specs.Taking.{Searchable, FirstLow, against, Takable, Takes};
-use crate::Taken;
 use stored::item::m_of;
 use stored::item::p_of;
 use stored::item::read_item;
@@ -14,6 +13,12 @@ use stored::table::FROM;
 use stored::table::KIND;
 use stored::table::STACKED;
 use stored::table::part_word;
+
+// The place of an item in a part's shape list by height, and its length along the join.
+pub struct Taken {
+    pub place: usize,
+    pub extent: u32,
+}
 
 // The place of the first item whose m is at most the limit. There is such an item.
 fn first_no_larger(scratch: &[u32], from: usize, count: usize, across: bool, limit: u32) -> usize

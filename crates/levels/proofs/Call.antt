@@ -2,14 +2,14 @@
 -- The reader's answer is the definition's, and the top level and the levels are those of the tree that it counted.
 use mathlib.Core.Path.{_≡_, refl, sym, ap, _∙_}
 use mathlib.Core.List.{List}
-use Prim.Native.Nat.{ℕ, _≤_, _<_}
+use Prim.Native.Nat.{ℕ, _≤_}
 use native.Mathlib.Omega.{arith}
 use lib.Dec.{eqb}
 use lib.ListN.{length}
 use borrow.Author.Tests.{eq-eqb, ne-eqb}
 use Rattle.checks.specs.Check.{LevelCount}
-use Rattle.checks.specs.Answer.{Answer, refused, taken, ask, next, number, outcome}
-use Rattle.slicing.specs.Tree.{Tree, sizeCount, leastDepth, mostDepth}
+use Rattle.checks.specs.Answer.{taken, ask, number, outcome}
+use Rattle.slicing.specs.Tree.{sizeCount, leastDepth}
 use Rattle.slicing.proofs.Depths.{depth-few, least-most}
 use Rattle.facefile.specs.declared.Face.{Face}
 use Rattle.facefile.specs.Format.{faceOf}

@@ -1,8 +1,8 @@
 -- What the walk for the depths keeps: the two arrays hold, from the oldest part on the stack to the newest, its least and its most depth.
 -- A gauge is put after the parts that are there, and a join changes the last two places alone.
 use mathlib.Core.Path.{_≡_, refl, sym, ap, subst, _∙_}
-use mathlib.Core.List.{List, [], _∷_, _++_}
-use Prim.Native.Nat.{ℕ, zero, suc, _+_, _-_, _*_, _≤_, _<_, min, max}
+use mathlib.Core.List.{List, [], _∷_}
+use Prim.Native.Nat.{ℕ, suc, _+_, _-_, _*_, _≤_, _<_, min, max}
 use native.Mathlib.Numerals.{add-one}
 use native.Mathlib.Omega.{arith}
 use lib.ListN.{length, getD, set, length-set, length-append}
@@ -15,7 +15,6 @@ use Rattle.facefile.specs.Tracking.{flat}
 use Rattle.facefile.proofs.Took.{Cut, cut-beside, cut-stacked}
 use Rattle.facefile.proofs.PartArray.{Held, held-push, push-held, stack-few}
 use Rattle.facefile.proofs.Walk.{Walk, walk-start, walk-end, GaugeTurn, gauge-turn, JoinTurn, join-turn}
-use Rattle.levels.specs.declared.depths.Depths.{Depths}
 use Rattle.levels.specs.Deep.{Deep, Room, joinedAt}
 
 -- f of a join is one more than g of f of its parts.

@@ -1,8 +1,8 @@
 -- What the loop that fills a buffer keeps: the bytes before place i are the levels of sizes 1 to i, and the length stays.
 -- A turn stores the level of size i + 1 at place i, which is the one that the list of levels has there.
 use mathlib.Core.Path.{_≡_, refl, _∙_}
-use mathlib.Core.List.{List, [], _∷_, _++_}
-use Prim.Native.Nat.{ℕ, suc, _+_, _≤_, _<_, min}
+use mathlib.Core.List.{List}
+use Prim.Native.Nat.{ℕ, _+_, _≤_, _<_, min}
 use native.Mathlib.Numerals.{add-one}
 use native.Mathlib.Omega.{arith}
 use lib.ListN.{length, take, set, length-set}

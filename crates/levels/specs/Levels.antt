@@ -2,7 +2,6 @@
 use mathlib.Core.Bool.{true, false, cond}
 use mathlib.Core.List.{List, [], _∷_}
 use Prim.Native.Nat.{ℕ, zero, suc, _+_, _*_, _/_, _%_, _^_, min}
-use lib.ListN.{length}
 use lib.Dec.{leb, ltb, eqb}
 use Rattle.checks.specs.Check.{LevelCount}
 use Rattle.checks.specs.Answer.{Answer, taken, ask, next}

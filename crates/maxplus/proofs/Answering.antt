@@ -1,4 +1,5 @@
 -- What the reading call answers, by the length of the arena and the list that it holds: a law for each way out.
+-- The call asks the checks in the definition's order, and an arena holds a list just where the walk from the head can be followed to its end.
 use mathlib.Core.Path.{_≡_, refl, ap, _∙_}
 use mathlib.Core.Bool.{Bool, true, false, cond, _&&_}
 use mathlib.Core.List.{List, [], _∷_}

@@ -6,13 +6,16 @@ use mathlib.Core.List.{List, [], _∷_, _++_}
 use Prim.Native.Nat.{ℕ, zero, suc, _+_, _≤_, _<_}
 use native.Mathlib.Omega.{arith}
 use lib.Dec.{leb, ltb, eqb}
-use borrow.Author.Tests.{ltb-true, ltb-false, leb-true, eqb-true, lt-ltb, le-ltb, le-leb, eq-eqb}
+use borrow.Author.Tests.{ltb-true, leb-true, eqb-true, lt-ltb, le-ltb, le-leb, eq-eqb}
 use Rattle.checks.specs.Check.{LazyList}
 use Rattle.checks.specs.Answer.{taken, next}
 use Rattle.checks.proofs.Answers.{not-both, same-taken, ask-taken, next-taken}
 use Rattle.slicing.specs.Recorded.{Recorded}
 use Rattle.arena.specs.Arena.{level, mWord, forward}
 use Rattle.arena.specs.Lazy.{nextWith, lastWith, trueP, held, walk, linksRight, linked, falling}
+use Rattle.arena.proofs.Cases.{lt-or-ge}
+use Rattle.arena.proofs.Frames.{next-here, next-past}
+use Rattle.arena.proofs.ListLaws.{last-append}
 use Rattle.maxplus.specs.Pass.{Follows}
 
 -- Both of two tests.
@@ -23,32 +26,16 @@ both false y e = absurd (let z : _≡_ {A = ℕ} 0 1 = cc in omega arith)
 pub each : (x y : Bool) → x ≡ true → y ≡ true → (x && y) ≡ true
 each x y e f = rw (e, f)
 
-pub lt-or-ge : {P : Type 0} (m n : ℕ) → (m < n → P) → (n ≤ m → P) → P
-lt-or-ge {P} m n f g = go (ltb m n) refl
-  where
-    go : (b : Bool) → ltb m n ≡ b → P
-    go true e = f (ltb-true m n e)
-    go false e = g (ltb-false m n e)
-
 -- The last record with a link, after one more record.
 last-more : (a : List ℕ) (k h : ℕ) (passed : List ℕ) (r : ℕ) → lastWith a k h (passed ++ (r ∷ [])) ≡ cond (ltb k (level a r)) r (lastWith a k h passed)
 unfolding lastWith
-last-more a k h [] r = refl
-last-more a k h (x ∷ passed) r = last-more a k (cond (ltb k (level a x)) x h) passed r
+last-more a k h passed r = last-append a k h passed (r ∷ [])
 
 pub last-here : (a : List ℕ) (k : ℕ) (passed : List ℕ) (r : ℕ) → k < level a r → lastWith a k 0 (passed ++ (r ∷ [])) ≡ r
 last-here a k passed r h = last-more a k 0 passed r ∙ rw (lt-ltb k (level a r) h)
 
 pub last-past : (a : List ℕ) (k : ℕ) (passed : List ℕ) (r : ℕ) → level a r ≤ k → lastWith a k 0 (passed ++ (r ∷ [])) ≡ lastWith a k 0 passed
 last-past a k passed r h = last-more a k 0 passed r ∙ rw (le-ltb k (level a r) h)
-
-next-here : (a : List ℕ) (k r : ℕ) (rs : List ℕ) → k < level a r → nextWith a k (r ∷ rs) ≡ r
-unfolding nextWith
-next-here a k r rs h = rw (lt-ltb k (level a r) h)
-
-next-past : (a : List ℕ) (k r : ℕ) (rs : List ℕ) → level a r ≤ k → nextWith a k (r ∷ rs) ≡ nextWith a k rs
-unfolding nextWith
-next-past a k r rs h = rw (le-ltb k (level a r) h)
 
 -- The links of one record.
 pub links-each : (a : List ℕ) (r : ℕ) (rs : List ℕ) (n : ℕ) → linksRight a r rs n ≡ true → (k : ℕ) → k < n → forward a r k ≡ nextWith a k rs

@@ -3,21 +3,17 @@
 use mathlib.Core.Path.{_≡_, refl, ap, _∙_}
 use mathlib.Core.Bool.{true, false}
 use mathlib.Core.List.{List}
-use Prim.Native.Nat.{ℕ, zero, suc, _+_, _*_, _≤_, _<_, _%_, _^_}
+use Prim.Native.Nat.{ℕ, _+_, _≤_, _<_, _%_, _^_}
 use native.Mathlib.Nat.{mod-add-mod}
 use native.Mathlib.Numerals.{add-one}
 use native.Mathlib.Omega.{arith}
 use lib.ListN.{length, getD, set, length-set}
 use lib.Seq.{getD-set-same, getD-set-other}
-use borrow.Author.Tests.{le-leb, lt-leb}
 use borrow.Author.Count.{below-more}
 use Rattle.arena.specs.Arena.{word, level}
 use Rattle.arena.specs.Lazy.{sumFrom}
+use Rattle.arena.proofs.SumLaws.{sum-none, sum-more}
 use Rattle.maxplus.specs.Pass.{Decides, Levelled, Are, Passed}
-
-pub word-read : (a : List ℕ) (r j w : ℕ) → w ≡ r → getD a (19 * w + j) 0 ≡ word a r j
-unfolding word
-word-read a r j w e = rw e
 
 -- Comparing.
 pub record Alike (row : List ℕ) (n x k : ℕ) : Type 0 where
@@ -48,15 +44,6 @@ pub record Summed (row : List ℕ) (l sum k : ℕ) : Type 0 where
   pub within : k ≤ 8
   pub inside : 8 ≤ length row
   pub same : sum ≡ sumFrom (λ i. getD row i 0) l k % 2 ^ 32
-
-sum-none : (f : ℕ → ℕ) (l n : ℕ) → n ≤ l → sumFrom f l n ≡ 0
-unfolding sumFrom
-sum-none f l zero h = refl
-sum-none f l (suc n) h = let before = sum-none f l n (omega arith) in rw (lt-leb l n (omega arith)) (omega arith)
-
-sum-more : (f : ℕ → ℕ) (l n : ℕ) → l ≤ n → sumFrom f l (suc n) ≡ sumFrom f l n + f n
-unfolding sumFrom
-sum-more f l n h = rw (le-leb l n h)
 
 pub summed-none : (row : List ℕ) (l : ℕ) → l ≤ 8 → 8 ≤ length row → Summed row l 0 l
 summed-none row l h k =

@@ -1,4 +1,5 @@
--- What the code answers on one record: whether the list may go on with it, its item, and whether the item may follow the one before it.
+-- What the code answers on one record: whether the list may go on with it, its item, and whether the item may follow the one before it; and what it answers of a place at the end.
+-- Each test that the code makes is one of those that the definition asks, in another order or on the word that it stands for.
 use mathlib.Core.Path.{_≡_, refl, ap, _∙_}
 use mathlib.Core.Bool.{Bool, true, false}
 use mathlib.Core.List.{List}

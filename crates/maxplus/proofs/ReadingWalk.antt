@@ -1,9 +1,9 @@
--- What the walk of the reading call keeps: the records passed make due what the row of links says and leave the sums that the row of sums says,
--- and the arena holds a list just where what is left of the walk can follow them.
+-- What the walk of the reading call keeps: the records passed make due what the row of links says and leave the sums that the row of sums says, and the arena holds a list just where what is left of the walk can follow them.
+-- A turn settles the links of one record more, and puts its forwards and its adjusts in the places of the two rows that it has links for.
 use mathlib.Core.Path.{_≡_, refl, sym, ap, subst, _∙_}
 use mathlib.Core.Bool.{Bool, true, false, not, cond}
 use mathlib.Core.List.{List, [], _∷_, _++_, append-nil, append-assoc, map-append}
-use Prim.Native.Nat.{ℕ, zero, suc, _+_, _-_, _≤_, _<_, _%_, _^_}
+use Prim.Native.Nat.{ℕ, suc, _+_, _-_, _≤_, _<_, _%_, _^_}
 use native.Mathlib.Omega.{arith}
 use lib.Dec.{eqb}
 use lib.ListN.{length, getD, length-append, length-map, List·getD-append}
@@ -15,10 +15,12 @@ use Rattle.slicing.specs.Recorded.{Recorded, items}
 use Rattle.maxplus.specs.declared.Reading.{Reading}
 use Rattle.maxplus.specs.declared.read_list.Item.{Item as Read}
 use Rattle.arena.specs.Arena.{word, level, mWord, pWord, adjust}
-use Rattle.arena.specs.Lazy.{lastWith, sumFrom, trueP, held, lazyList}
+use Rattle.arena.specs.Lazy.{lastWith, trueP, held, lazyList}
+use Rattle.arena.proofs.Cases.{lt-or-ge}
+use Rattle.arena.proofs.Frames.{sum-frame}
 use Rattle.maxplus.specs.Read.{readItem, reading}
 use Rattle.maxplus.specs.Pass.{refusedReading, readAt, Decides, Levelled, Are, Fits, risen, Passed, Follows}
-use Rattle.maxplus.proofs.Following.{lt-or-ge, last-here, last-past, due, Rest, Meets, Turn, turn, turn-back, rest-full, rest-over, rest-none}
+use Rattle.maxplus.proofs.Following.{last-here, last-past, due, Rest, Meets, Turn, turn, turn-back, rest-full, rest-over, rest-none}
 use Rattle.maxplus.proofs.Answering.{lazy-rest, rest-lazy, no-list, list-read}
 
 -- The word from j of the last record with link k, of those passed and the head.
@@ -39,15 +41,10 @@ row-more a j r passed first l f z k h =
     (λ b. z .past k b ∙ f k h ∙ ap (λ (x : ℕ). word a x (j + k)) (sym (last-past a k passed r b)))
 
 -- The true p of a record from the row of sums.
-sum-same : (f g : ℕ → ℕ) (l n : ℕ) → ((k : ℕ) → k < n → f k ≡ g k) → sumFrom f l n ≡ sumFrom g l n
-unfolding sumFrom
-sum-same f g l zero h = refl
-sum-same f g l (suc n) h = cc (sum-same f g l n (λ k b. h k (omega arith)), h n (omega arith))
-
 risen-true : (a s passed : List ℕ) (r : ℕ) → Row a 11 passed s → risen a s r ≡ trueP a 0 passed r
 unfolding risen trueP
 risen-true a s passed r f =
-    ap (λ (n : ℕ). (pWord a r + n) % 2 ^ 32) (sum-same (λ k. getD s k 0) (λ k. adjust a (lastWith a k 0 passed) k) (level a r) 8 f)
+    ap (λ (n : ℕ). (pWord a r + n) % 2 ^ 32) (sum-frame (λ k. adjust a (lastWith a k 0 passed) k) (λ k. getD s k 0) (level a r) 8 f)
 
 -- One more item.
 abbrev itemOf : List ℕ → List ℕ → ℕ → Recorded

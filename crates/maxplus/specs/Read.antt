@@ -7,7 +7,7 @@ use lib.Dec.{leb}
 use Rattle.checks.specs.Check.{Buffers, Place}
 use Rattle.checks.specs.Answer.{Answer, taken, ask, next, number, outcome}
 use Rattle.slicing.specs.Item.{Item, size}
-use Rattle.slicing.specs.Recorded.{Recorded, items}
+use Rattle.slicing.specs.Recorded.{items}
 use Rattle.arena.specs.Lazy.{lazyList}
 use Rattle.maxplus.specs.declared.Reading.{Reading}
 

@@ -2,26 +2,24 @@
 -- Settling changes values of the front alone and relinking changes links and the head's sums alone, so each leaves what the other needs.
 use mathlib.Core.Path.{_≡_, refl, sym, ap, subst, _∙_}
 use mathlib.Core.List.{List, [], _∷_, _++_, map}
-use Prim.Native.Nat.{ℕ, zero, suc, _+_, _-_, _≤_, _<_}
+use Prim.Native.Nat.{ℕ, _+_, _-_, _≤_, _<_}
 use native.Mathlib.Omega.{arith}
 use lib.ListN.{length, getD, length-append}
-use lib.Dec.{leb}
 use borrow.Author.Tests.{le-leb, lt-leb}
-use Rattle.arena.specs.Arena.{level, mWord, pWord, forward, adjust}
-use Rattle.arena.specs.Lazy.{nextWith, lastWith}
-use Rattle.arena.specs.Chain.{Has, wrap, All, Away, Member, Chain, Linked, pUnder, after, trues, leaving, Same, Shape, Value}
+use Rattle.arena.specs.Arena.{level, mWord, adjust}
+use Rattle.arena.specs.Chain.{Has, wrap, All, Away, Chain, Linked, pUnder, after, trues, leaving, Same, Shape, Value}
 use Rattle.arena.proofs.Cases.{lt-or-ge}
-use Rattle.arena.proofs.ListLaws.{all-left, all-right, last-none}
+use Rattle.arena.proofs.ListLaws.{all-left, all-right, last-none, last-all, some-with, none-has, leaving-last}
 use Rattle.arena.proofs.PutLaws.{same-trans}
-use Rattle.arena.proofs.Frames.{all-map, same-shape, same-value, next-frame, linked-frame, trues-frame}
-use Rattle.merging.specs.Cut.{front, Searchable, CutAt}
+use Rattle.arena.proofs.Frames.{all-map, all-refl, all-both, same-value, next-frame, linked-frame, trues-frame, last-frame}
+use Rattle.merging.specs.Cut.{front, CutAt}
 use Rattle.merging.specs.Opening.{Readable, Opened}
-use Rattle.merging.specs.Open.{OpenLinked, CutC, Relinkable, Relinked}
-use Rattle.merging.specs.Settled.{headSums, lastSums, Ends, Ready, Settled}
+use Rattle.merging.specs.Open.{Relinkable, Relinked}
+use Rattle.merging.specs.Settled.{lastSums, Ready, Settled}
 use Rattle.merging.specs.Advance.{behind, Movable, Moved}
 use Rattle.merging.proofs.SearchLaws.{front-in}
 use Rattle.merging.proofs.FrontLaws.{last-has, apart-from}
-use Rattle.merging.proofs.OpenLaws.{all-every, last-all, some-with, none-has, leaving-last, last-frame, ends-frame, open-frame}
+use Rattle.merging.proofs.OpenLaws.{ends-frame, open-frame}
 use Rattle.merging.proofs.ClosingLaws.{ends-has}
 use Rattle.merging.proofs.RelinkLaws.{relinked-value, relinked-same}
 
@@ -38,6 +36,17 @@ behind-shorter a key r rs tops =
     let whole : length (r ∷ rs) ≡ length (front a key (r ∷ rs)) + length (behind a key (r ∷ rs)) = ap length (front-behind a key (r ∷ rs)) ∙ length-append (front a key (r ∷ rs)) (behind a key (r ∷ rs)) in
     let some : 1 ≤ length (front a key (r ∷ rs)) = subst (λ (l : List ℕ). 1 ≤ length l) (sym (front-in a key r rs tops)) (omega arith) in
     omega arith
+
+-- What holds of every record holds of those in front, and of those behind.
+module _ (P : ℕ → Type 0) (a : List ℕ) (key : ℕ) (rs : List ℕ) (h : All P rs) where
+  parted : All P (front a key rs ++ behind a key rs)
+  parted = subst (All P) (front-behind a key rs) h
+
+  pub all-front : All P (front a key rs)
+  all-front = all-left P (front a key rs) (behind a key rs) parted
+
+  pub all-behind : All P (behind a key rs)
+  all-behind = all-right P (front a key rs) (behind a key rs) parted
 
 pub trues-append : (a : List ℕ) (f : ℕ → ℕ) (xs ys : List ℕ) → trues a f (xs ++ ys) ≡ trues a f xs ++ trues a (leaving a f xs) ys
 unfolding trues leaving
@@ -65,6 +74,12 @@ module _ (a : List ℕ) (h hc key : ℕ) (cs : List ℕ) (r : ℕ) (rs cutc : Li
 
   linked : Linked a h (fr ++ back)
   linked = subst (λ (l : List ℕ). Linked a h l) whole (w .list .linked)
+
+  cs-apart : All (λ x. Away x fr) cs
+  cs-apart = all-map cs (λ x y. all-front (λ z. z ≡ x → ⊥) a key (r ∷ rs) y) (w .apart)
+
+  hc-apart : Away hc fr
+  hc-apart = all-front (λ x. x ≡ hc → ⊥) a key (r ∷ rs) (w .result-away)
 
   fr-some : All (λ x. 1 ≤ x) fr
   fr-some = all-left (λ x. 1 ≤ x) fr back (chain-some a (fr ++ back) (linked .chain))
@@ -128,18 +143,17 @@ module _ (a : List ℕ) (h hc key : ℕ) (cs : List ℕ) (r : ℕ) (rs cutc : Li
             apart = λ k e.
                 subst (λ (x : ℕ). Away x fr) (sym (w .ends .at k e))
                 (last-all a k (λ x. Away x fr) hc cs
-                (all-left (λ x. x ≡ hc → ⊥) fr back (subst (λ (l : List ℕ). Away hc l) whole (w .result-away)))
-                (all-map cs (λ x y. all-left (λ z. z ≡ x → ⊥) fr back (subst (λ (l : List ℕ). Away x l) whole y)) (w .apart)));
+                hc-apart cs-apart);
             few = subst (λ (l : List ℕ). length l ≤ 512) whole (w .list .few);
           }
 
       -- After the front was settled, in the arena b.
       module _ (q : ℕ) (b : List ℕ) (s : Settled a b h q cutc fr) where
         levels : (rs : List ℕ) → All (λ x. level b x ≡ level a x) rs
-        levels l = all-every (λ x. level b x ≡ level a x) l (λ x. s .shape x .level-kept)
+        levels l = all-refl l (λ x. s .shape x .level-kept)
 
         shapes : (rs : List ℕ) → All (Shape a b) rs
-        shapes l = all-every (Shape a b) l (λ x. s .shape x)
+        shapes l = all-refl l (λ x. s .shape x)
 
         pub can-relink : Relinkable b h hc cs fr back cut sums cutc n
         can-relink =
@@ -180,20 +194,13 @@ module _ (a : List ℕ) (h hc key : ℕ) (cs : List ℕ) (r : ℕ) (rs cutc : Li
               }
 
           values-of : (xs : List ℕ) → Away h xs → All (λ x. Away x fr) xs → All (Value a d) xs
-          values-of [] off away = tt
-          values-of (x ∷ xs) off away = (value x (off .0) (away .0), values-of xs (off .1) (away .1))
-
-          cs-apart : All (λ x. Away x fr) cs
-          cs-apart = all-map cs (λ x y. all-left (λ z. z ≡ x → ⊥) fr back (subst (λ (l : List ℕ). Away x l) whole y)) (w .apart)
-
-          hc-apart : Away hc fr
-          hc-apart = all-left (λ x. x ≡ hc → ⊥) fr back (subst (λ (l : List ℕ). Away hc l) whole (w .result-away))
+          values-of xs off away = all-both xs value off away
 
           hc-sums : (k : ℕ) → k < 8 → adjust d hc k ≡ adjust a hc k
           hc-sums k f = value hc (λ x. w .heads (sym x)) hc-apart .adjust-kept k f
 
           d-levels : (xs : List ℕ) → All (λ x. level d x ≡ level b x) xs
-          d-levels xs = all-every (λ x. level d x ≡ level b x) xs (e .level-kept)
+          d-levels xs = all-refl xs (e .level-kept)
 
           -- What leaves the open list is what the front was settled for.
           leaving-is : (k : ℕ) → k < 8 → leaving d (adjust d hc) cs k ≡ lastSums a cutc k
@@ -205,11 +212,7 @@ module _ (a : List ℕ) (h hc key : ℕ) (cs : List ℕ) (r : ℕ) (rs cutc : Li
               (all-map cs (λ x v. v .adjust-kept k f) (values-of cs (w .head-away) cs-apart)))
 
           fr-values : All (Value b d) fr
-          fr-values = by fr head-off
-            where
-              by : (xs : List ℕ) → Away h xs → All (Value b d) xs
-              by [] off = tt
-              by (x ∷ xs) off = (relinked-value b d h hc cs fr back cut sums cutc cutd n can e x (off .0), by xs (off .1))
+          fr-values = all-map fr (relinked-value b d h hc cs fr back cut sums cutc cutd n can e) head-off
 
           result-values : trues d (adjust d hc) (cs ++ fr) ≡ trues a (adjust a hc) cs ++ map (λ (t : ℕ). wrap t q) (trues a (adjust a h) fr)
           result-values =

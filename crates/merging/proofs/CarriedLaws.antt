@@ -1,19 +1,17 @@
 -- What a list of records carries is what its parts carry, one after the other; it hangs on the m and the true p alone; and a run whose true p are raised by q is what the merge makes of it against an item with the p q.
 -- A sum of two true p that stays below 2^32 is its own remainder.
-use mathlib.Core.Path.{_≡_, refl, sym, ap, ap₂, subst, _∙_}
-use mathlib.Core.List.{List, [], _∷_, _++_, map, List·Memᴰ, List·Memᴰ·head, List·Memᴰ·tail, List·Memᴰ·not-nil, List·Memᴰ·cases-cons}
-use mathlib.Core.Logic.{⊎-elim}
-use Prim.Native.Nat.{ℕ, zero, suc, _+_, _%_, _^_, _≤_, _<_}
+use mathlib.Core.Path.{_≡_, refl, ap, ap₂, _∙_}
+use mathlib.Core.List.{List, [], _∷_, _++_, map, List·Memᴰ, List·Memᴰ·head, List·Memᴰ·tail}
+use Prim.Native.Nat.{ℕ, suc, _+_, _%_, _^_, _<_}
 use native.Mathlib.Nat.{mod-eq-of-lt}
 use native.Mathlib.Omega.{arith}
 use lib.ListN.{length}
-use Rattle.slicing.specs.Item.{Item, size}
+use Rattle.slicing.specs.Item.{size}
 use Rattle.slicing.specs.Recorded.{Recorded}
 use Rattle.slicing.proofs.Batch.{raisedOlder, raisedNewer}
-use Rattle.arena.specs.Arena.{level, mWord}
+use Rattle.arena.specs.Arena.{mWord}
 use Rattle.arena.specs.Chain.{wrap, All, pUnder, after, trues, leaving, Same}
 use Rattle.arena.proofs.Frames.{all-map, all-refl, same-value, trues-frame}
-use Rattle.merging.specs.Cut.{front}
 use Rattle.merging.specs.Carried.{paired, carried}
 use Rattle.merging.proofs.Advancing.{trues-append}
 
@@ -21,6 +19,10 @@ pub trues-length : (a : List ℕ) (f : ℕ → ℕ) (rs : List ℕ) → length (
 unfolding trues
 trues-length a f [] = refl
 trues-length a f (r ∷ rs) = ap suc (trues-length a (after a f r) rs)
+
+pub carried-cons : (a : List ℕ) (f : ℕ → ℕ) (r : ℕ) (rs : List ℕ) → carried a f (r ∷ rs) ≡ record { number = r; item = size (mWord a r) (pUnder a f r) } ∷ carried a (after a f r) rs
+unfolding carried trues
+carried-cons a f r rs = refl
 
 paired-append : (a xs ys ps qs : List ℕ) → length ps ≡ length xs → paired a (xs ++ ys) (ps ++ qs) ≡ paired a xs ps ++ paired a ys qs
 paired-append a [] ys [] qs e = refl
@@ -77,10 +79,6 @@ paired-newer a b (r ∷ rs) (p ∷ ps) h =
     let sum : (p + b .item .p) % 2 ^ 32 ≡ b .item .p + 0 + p = mod-eq-of-lt small ∙ omega arith in
     ap₂ (λ (t : ℕ) (l : List Recorded). record { number = r; item = size (mWord a r) t } ∷ l) sum
     (paired-newer a b rs ps (λ x i. h x (List·Memᴰ·tail i)))
-
-map-length : (g : ℕ → ℕ) (l : List ℕ) → length (map g l) ≡ length l
-map-length g [] = refl
-map-length g (x ∷ l) = ap suc (map-length g l)
 
 -- What the open list carries after a run was moved behind it.
 module _ (a b : List ℕ) (f g h : ℕ → ℕ) (cs fr : List ℕ) (z : Recorded) (same : (x : ℕ) → mWord b x ≡ mWord a x) (values : trues b g (cs ++ fr) ≡ trues a f cs ++ map (λ (t : ℕ). wrap t (z .item .p)) (trues a h fr)) (below : Below (z .item .p) (carried a h fr)) where

@@ -5,17 +5,18 @@ use mathlib.Core.Bool.{cond}
 use mathlib.Core.List.{List, [], _∷_}
 use Prim.Native.Nat.{ℕ, _+_, _≤_, _<_}
 use native.Mathlib.Omega.{arith}
+use borrow.Author.Count.{below-more}
 use lib.Dec.{ltb}
 use lib.ListN.{length, getD}
 use Rattle.arena.specs.Arena.{stride, word, level, forward}
 use Rattle.arena.specs.Lazy.{nextWith, lastWith}
 use Rattle.arena.specs.Chain.{Has, put, All, Away, Links, Chain, Same, Value}
 use Rattle.arena.proofs.Cases.{eq-or-ne}
-use Rattle.arena.proofs.ListLaws.{last-here, last-none}
+use Rattle.arena.proofs.ListLaws.{last-here, last-none, next-none, some-or-none, last-all, not-last}
 use Rattle.arena.proofs.PutLaws.{length-put, word-same, word-other-record, word-other-field}
-use Rattle.arena.proofs.Frames.{next-frame}
+use Rattle.arena.proofs.Frames.{all-refl, next-frame}
 use Rattle.merging.specs.Open.{OpenLinks, OpenChain, OpenLinked, CutC, Closed}
-use Rattle.merging.proofs.OpenLaws.{up-to, all-every, next-none, some-or-none, last-all, not-last, open-some, open-has}
+use Rattle.merging.proofs.OpenLaws.{open-some, open-has}
 
 -- The words after the links below n were closed.
 pub record Ended (a b : List ℕ) (cutc : List ℕ) (n : ℕ) : Type 0 where
@@ -32,12 +33,12 @@ ended-turn a b cutc i small has w =
     let long = w .length-kept in
     record {
       length-kept = length-put b (getD cutc i 0) (3 + i) 0 ∙ long;
-      done = λ k p.
-          up-to (λ y. forward (put b (getD cutc i 0) (3 + i) 0) (getD cutc y 0) y ≡ 0) i k p
-          (word-same b (getD cutc i 0) (3 + i) 0 (omega arith) (omega arith))
-          (λ e.
+      done =
+          below-more _ _
+          (λ k e.
           word-other-field b (getD cutc i 0) (3 + i) 0 (getD cutc k 0) (3 + k) (omega arith) (omega arith) (omega arith)
-          ∙ w .done k e);
+          ∙ w .done k e)
+          (word-same b (getD cutc i 0) (3 + i) 0 (omega arith) (omega arith));
       other = λ x j few n.
           eq-or-ne j (3 + i)
           (λ e.
@@ -61,7 +62,7 @@ module _ (a b cutc : List ℕ) (w : Ended a b cutc 8) where
   level-kept x = field-kept x 0 (omega arith) (λ k p e. omega arith)
 
   next-kept : (k : ℕ) (rs : List ℕ) → nextWith b k rs ≡ nextWith a k rs
-  next-kept k rs = next-frame a b k rs (all-every (λ x. level b x ≡ level a x) rs level-kept)
+  next-kept k rs = next-frame a b k rs (all-refl rs level-kept)
 
   has-kept : (x : ℕ) → Has a x → Has b x
   has-kept x has = let l = w .length-kept in omega arith

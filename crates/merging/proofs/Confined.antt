@@ -1,19 +1,17 @@
 -- Each step of the merge touches the records of the two lists and the three heads alone.
 -- A step touches the run that it moves, the result and two heads, and all of these come from the lists that the merge began with.
-use mathlib.Core.Path.{_≡_, refl, sym, subst, _∙_}
-use mathlib.Core.List.{List, [], _∷_, _++_}
+use mathlib.Core.Path.{_≡_, sym, _∙_}
+use mathlib.Core.List.{List, _∷_, _++_}
 use Prim.Native.Nat.{ℕ, _+_}
 use native.Mathlib.Omega.{arith}
-use Rattle.arena.specs.Arena.{mWord}
-use Rattle.arena.specs.Chain.{All, Away, Same}
-use Rattle.arena.proofs.ListLaws.{all-left, all-right}
+use Rattle.arena.specs.Chain.{Away}
+use Rattle.arena.proofs.ListLaws.{all-append}
 use Rattle.arena.proofs.PutLaws.{same-trans}
 use Rattle.merging.specs.Cut.{front}
 use Rattle.merging.specs.Advance.{behind, Moved}
 use Rattle.merging.specs.Dropping.{Dropped}
 use Rattle.merging.specs.Running.{Confined}
-use Rattle.merging.proofs.Advancing.{front-behind}
-use Rattle.merging.proofs.OpenLaws.{all-append}
+use Rattle.merging.proofs.Advancing.{all-front, all-behind}
 
 module _ (a₀ a b : List ℕ) (ho hn hc key q r : ℕ) (xs₀ ys₀ xs ys cs ends' : List ℕ) (w : Confined a₀ a ho hn hc xs₀ ys₀ (r ∷ xs) ys cs) (d : Moved a b ho hc q cs (front a key (r ∷ xs)) (behind a key (r ∷ xs)) ends') where
   abbrev fr : List ℕ
@@ -22,14 +20,11 @@ module _ (a₀ a b : List ℕ) (ho hn hc key q r : ℕ) (xs₀ ys₀ xs ys cs en
   abbrev back : List ℕ
   back = behind a key (r ∷ xs)
 
-  parted : (x : ℕ) → Away x (r ∷ xs) → Away x (fr ++ back)
-  parted x h = subst (λ (l : List ℕ). Away x l) (front-behind a key (r ∷ xs)) h
-
   off-run : (x : ℕ) → Away x (r ∷ xs) → Away x fr
-  off-run x h = all-left (λ z. z ≡ x → ⊥) fr back (parted x h)
+  off-run x h = all-front (λ z. z ≡ x → ⊥) a key (r ∷ xs) h
 
   off-rest : (x : ℕ) → Away x (r ∷ xs) → Away x back
-  off-rest x h = all-right (λ z. z ≡ x → ⊥) fr back (parted x h)
+  off-rest x h = all-behind (λ z. z ≡ x → ⊥) a key (r ∷ xs) h
 
   pub confined-moved : Confined a₀ b ho hn hc xs₀ ys₀ back ys (cs ++ fr)
   confined-moved =

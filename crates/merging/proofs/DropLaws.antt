@@ -1,15 +1,15 @@
 -- After its first record has left, the list of a head is the rest, with the same true p.
 -- Up to the record's level its forwards and sums are those that the rest was entered with; above it the head's own are.
 use mathlib.Core.Path.{_≡_, refl, sym, ap, subst, _∙_}
-use mathlib.Core.List.{List, [], _∷_}
+use mathlib.Core.List.{List, _∷_}
 use Prim.Native.Nat.{ℕ, zero, suc, _+_, _≤_, _<_}
 use native.Mathlib.Numerals.{add-one}
 use native.Mathlib.Omega.{arith}
 use lib.ListN.{length}
 use borrow.Author.Tests.{lt-ltb, le-ltb}
-use Rattle.arena.specs.Arena.{stride, word, level, mWord, pWord, forward, adjust}
+use Rattle.arena.specs.Arena.{stride, word, level, forward, adjust}
 use Rattle.arena.specs.Lazy.{nextWith}
-use Rattle.arena.specs.Chain.{Has, put, All, Away, Links, Member, Chain, Linked, trues, after, Same, Shape, Value}
+use Rattle.arena.specs.Chain.{Has, put, All, Member, Linked, after, Same}
 use Rattle.arena.proofs.Cases.{lt-or-ge, eq-or-ne, last-or-below}
 use Rattle.arena.proofs.PutLaws.{length-put, word-same, word-other-record, word-other-field, same-put, same-refl, same-trans}
 use Rattle.arena.proofs.Frames.{next-here, next-past, all-map, same-shape, same-value, next-frame, chain-frame, trues-frame}
@@ -119,12 +119,8 @@ module _ (a : List ℕ) (h r : ℕ) (rs : List ℕ) (l : Linked a h (r ∷ rs)) 
   kept : (x : ℕ) → (x ≡ h → ⊥) → Same a now-is x
   kept x e = over-other a h r other-head (l .has) (level a r) high x e
 
-  all-kept : (xs : List ℕ) → Away h xs → All (Same a now-is) xs
-  all-kept [] w = tt
-  all-kept (x ∷ xs) w = (kept x (w .0), all-kept xs (w .1))
-
   rest-kept : All (Same a now-is) rs
-  rest-kept = all-kept rs (l .away .1)
+  rest-kept = all-map rs kept (l .away .1)
 
   levels : All (λ x. level now-is x ≡ level a x) rs
   levels = all-map rs (λ x s. s .at 0 (omega arith)) rest-kept

@@ -2,7 +2,7 @@
 -- The first record of a list xs ++ ys with a link is the first of xs, or the first of ys where xs has none.
 use mathlib.Core.Path.{_≡_, refl, sym, ap, subst, _∙_}
 use mathlib.Core.Bool.{cond}
-use mathlib.Core.List.{List, [], _∷_, _++_, append-assoc}
+use mathlib.Core.List.{List, [], _∷_, _++_, append-nil, append-assoc}
 use Prim.Native.Nat.{ℕ, suc, _+_, _≤_, _<_}
 use native.Mathlib.Omega.{arith}
 use lib.ListN.{length, length-append}
@@ -11,8 +11,8 @@ use Rattle.arena.specs.Arena.{level, forward}
 use Rattle.arena.specs.Lazy.{nextWith, lastWith}
 use Rattle.arena.specs.Chain.{Has, All, Away, Chain, Linked}
 use Rattle.arena.proofs.Cases.{lt-or-ge}
-use Rattle.arena.proofs.ListLaws.{last-here, last-past, all-left, all-right}
-use Rattle.arena.proofs.Frames.{next-here, next-past}
+use Rattle.arena.proofs.ListLaws.{last-here, last-past, all-left, all-right, all-append, next-back}
+use Rattle.arena.proofs.Frames.{all-refl, all-both, next-here, next-past}
 use Rattle.merging.specs.Lift.{nextOr, Stretch, Chained}
 use Rattle.merging.proofs.SettleLaws.{Starts}
 
@@ -32,13 +32,9 @@ parts a i (r ∷ rs) =
     let p = parts a i rs in
     record { low = r ∷ p .low; rest = p .rest; split = ap (λ (l : List ℕ). r ∷ l) (p .split); lower = (h, p .lower); starts = p .starts })
 
-pub append-none : (xs : List ℕ) → xs ++ [] ≡ xs
-append-none [] = refl
-append-none (x ∷ xs) = ap (λ (l : List ℕ). x ∷ l) (append-none xs)
-
 -- Where no record has more than n links, the whole front is before the first with link n.
 unfoldable pub parts-whole : (a : List ℕ) (n : ℕ) (front : List ℕ) → All (λ x. level a x ≤ n) front → Parts a n front
-parts-whole a n front low = record { low = front; rest = []; split = sym (append-none front); lower = low; starts = tt }
+parts-whole a n front low = record { low = front; rest = []; split = sym (append-nil front); lower = low; starts = tt }
 
 pub starts-lower : (a : List ℕ) (i k : ℕ) (xs : List ℕ) → k ≤ i → Starts a i xs → Starts a k xs
 starts-lower a i k [] h s = tt
@@ -51,10 +47,6 @@ module _ (a : List ℕ) (k : ℕ) where
   next-or [] ys = refl
   next-or (x ∷ xs) ys = ap (λ (n : ℕ). cond (ltb k (level a x)) x n) (next-or xs ys)
 
-  pub next-skip : (xs ys : List ℕ) → All (λ x. level a x ≤ k) xs → nextWith a k (xs ++ ys) ≡ nextWith a k ys
-  next-skip [] ys low = refl
-  next-skip (x ∷ xs) ys low = next-past a k x (xs ++ ys) (low .0) ∙ next-skip xs ys (low .1)
-
   -- The next record is none that is not of the list.
   pub next-other : (r : ℕ) (ys : List ℕ) → 1 ≤ r → Away r ys → r ≡ nextWith a k ys → ⊥
   unfolding nextWith
@@ -63,17 +55,7 @@ module _ (a : List ℕ) (k : ℕ) where
       lt-or-ge k (level a y) (λ h. away .0 (sym (e ∙ next-here a k y ys h)))
       (λ h. next-other r ys some (away .1) (e ∙ next-past a k y ys h))
 
-  -- The last record with link k, of the head h and xs: its forward, and that the arena has it.
-  pub last-forward : (h : ℕ) (xs ys : List ℕ) → forward a h k ≡ nextWith a k (xs ++ ys) → Chain a (xs ++ ys) → forward a (lastWith a k h xs) k ≡ nextWith a k ys
-  unfolding lastWith
-  last-forward h [] ys e c = e
-  last-forward h (x ∷ xs) ys e c =
-      lt-or-ge k (level a x)
-      (λ p. ap (λ (r : ℕ). forward a r k) (last-here a k h x xs p) ∙ last-forward x xs ys (c .0 .links .at k p) (c .1))
-      (λ p.
-      ap (λ (r : ℕ). forward a r k) (last-past a k h x xs p)
-      ∙ last-forward h xs ys (e ∙ next-past a k x (xs ++ ys) p) (c .1))
-
+  -- The arena has the last record with link k, of the head h and xs.
   pub last-has : (h : ℕ) (xs ys : List ℕ) → Has a h → Chain a (xs ++ ys) → Has a (lastWith a k h xs)
   unfolding lastWith
   last-has h [] ys has c = has
@@ -96,28 +78,17 @@ module _ (a : List ℕ) (k : ℕ) where
     stretch-of xs ys (c .1) (low .1),
   )
 
-all-append : (P : ℕ → Type 0) (xs ys : List ℕ) → All P xs → All P ys → All P (xs ++ ys)
-all-append P [] ys p q = q
-all-append P (x ∷ xs) ys p q = (p .0, all-append P xs ys (p .1) q)
-
 -- A list that starts with a record of link k has the same next record for every lower link.
 next-lower : (a : List ℕ) (k j : ℕ) (xs ys : List ℕ) → j ≤ k → Starts a k xs → (xs ≡ [] → ⊥) → nextWith a k (xs ++ ys) ≡ nextWith a j (xs ++ ys)
 next-lower a k j [] ys below starts some = absurd (some refl)
 next-lower a k j (x ∷ xs) ys below starts some =
     next-here a k x (xs ++ ys) starts ∙ sym (next-here a j x (xs ++ ys) (omega arith))
 
-pub all-of : (P : ℕ → Type 0) → ((x : ℕ) → P x) → (xs : List ℕ) → All P xs
-all-of P p [] = tt
-all-of P p (x ∷ xs) = (p x, all-of P p xs)
-
 -- The records ys behind xs are none of xs.
 pub apart-from : (a : List ℕ) (xs ys : List ℕ) → Chain a (xs ++ ys) → All (λ y. Away y xs) ys
-apart-from a [] ys c = all-of (λ y. Away y []) (λ y. tt) ys
-apart-from a (x ∷ xs) ys c = both ys (all-right (λ y. y ≡ x → ⊥) xs ys (c .0 .away)) (apart-from a xs ys (c .1))
-  where
-    both : (zs : List ℕ) → Away x zs → All (λ y. Away y xs) zs → All (λ y. Away y (x ∷ xs)) zs
-    both [] p q = tt
-    both (z ∷ zs) p q = ((λ e. p .0 (sym e), q .0), both zs (p .1) (q .1))
+apart-from a [] ys c = all-refl ys (λ y. tt)
+apart-from a (x ∷ xs) ys c =
+    all-both ys (λ y p q. (λ e. p (sym e), q)) (all-right (λ y. y ≡ x → ⊥) xs ys (c .0 .away)) (apart-from a xs ys (c .1))
 
 -- Records that have no link at all are none.
 pub no-links : (a : List ℕ) (xs ys : List ℕ) → Chain a (xs ++ ys) → All (λ x. level a x ≤ 0) xs → xs ≡ []
@@ -146,7 +117,7 @@ module _ (a : List ℕ) (head k : ℕ) (small : k < 8) (front back : List ℕ) (
     -- The first record with link k, where the front has one, is the next with any lower link from there on.
     pub next-low : (j : ℕ) → j ≤ k → All (λ x. level a x ≤ k) low → Starts a k rest → (All (λ x. level a x ≤ k) front → ⊥) → forward a head k ≡ nextWith a j (rest ++ back)
     next-low j below low-levels starts some =
-        head-next ∙ next-skip a k low (rest ++ back) low-levels
+        head-next ∙ next-back a k low (rest ++ back) low-levels
         ∙ next-lower a k j rest back below starts
         (λ e.
         some (subst (All (λ x. level a x ≤ k)) (sym (split ∙ ap (λ (x : List ℕ). low ++ x) e)) (all-append (λ x. level a x ≤ k) low [] low-levels tt)))

@@ -1,10 +1,9 @@
 -- What an arena holds of a list is what the list carries, entered with the adjusts of its head.
 -- The last record with a link before the next one is the record just passed where that has the link, which is how the running sums go on.
-use mathlib.Core.Path.{_≡_, refl, sym, ap, ap₂, _∙_}
+use mathlib.Core.Path.{_≡_, refl, ap, ap₂, _∙_}
 use mathlib.Core.Bool.{cond}
 use mathlib.Core.List.{List, [], _∷_, _++_}
-use Prim.Native.Nat.{ℕ, _≤_, _<_}
-use native.Mathlib.Omega.{arith}
+use Prim.Native.Nat.{ℕ, _<_}
 use lib.Dec.{ltb}
 use borrow.Author.Tests.{lt-ltb, le-ltb}
 use Rattle.slicing.specs.Item.{size}
@@ -12,9 +11,12 @@ use Rattle.slicing.specs.Recorded.{Recorded}
 use Rattle.arena.specs.Arena.{level, mWord, adjust}
 use Rattle.arena.specs.Lazy.{lastWith, trueP, held}
 use Rattle.arena.specs.Chain.{pUnder, after, trues}
-use Rattle.arena.proofs.ListLaws.{last-append, last-here, last-past, has-link}
-use Rattle.arena.proofs.Frames.{all-refl, trues-frame, under-frame}
-use Rattle.merging.specs.Carried.{paired, carried}
+use Rattle.arena.proofs.Cases.{lt-or-ge}
+use Rattle.arena.proofs.PutLaws.{same-refl}
+use Rattle.arena.proofs.ListLaws.{last-append}
+use Rattle.arena.proofs.Frames.{all-refl}
+use Rattle.merging.specs.Carried.{carried}
+use Rattle.merging.proofs.CarriedLaws.{carried-same}
 
 -- The sums behind the head h and the records before.
 abbrev sums : List ℕ → ℕ → List ℕ → ℕ → ℕ
@@ -28,16 +30,10 @@ sums-on : (a : List ℕ) (h : ℕ) (before : List ℕ) (r k : ℕ) → sums a h 
 unfolding after
 sums-on a h before r k =
     ap (λ (x : ℕ). adjust a x k) (last-append a k h before (r ∷ []) ∙ last-one a k (lastWith a k h before) r)
-    ∙ has-link a k r (λ less. rw (lt-ltb k (level a r) less) refl) (λ more. rw (le-ltb k (level a r) more) refl)
-
-carried-cons : (a : List ℕ) (f : ℕ → ℕ) (r : ℕ) (rs : List ℕ) → carried a f (r ∷ rs) ≡ record { number = r; item = size (mWord a r) (pUnder a f r) } ∷ carried a (after a f r) rs
-unfolding carried trues
-carried-cons a f r rs = refl
+    ∙ lt-or-ge k (level a r) (λ less. rw (lt-ltb k (level a r) less) refl) (λ more. rw (le-ltb k (level a r) more) refl)
 
 pub carried-sums : (a : List ℕ) (f g : ℕ → ℕ) (rs : List ℕ) → ((k : ℕ) → k < 8 → g k ≡ f k) → carried a g rs ≡ carried a f rs
-unfolding carried
-carried-sums a f g rs same =
-    ap (paired a rs) (trues-frame a a f g rs same (all-refl rs (λ x. record { level-kept = refl; p-kept = refl; adjust-kept = λ k few. refl })))
+carried-sums a f g rs same = carried-same a a f g rs same (all-refl rs (same-refl a))
 
 true-under : (a : List ℕ) (h : ℕ) (before : List ℕ) (r : ℕ) → trueP a h before r ≡ pUnder a (sums a h before) r
 unfolding trueP pUnder

@@ -1,25 +1,26 @@
 -- The whole merge: the cleared result and the two lists are a merge on its way, and when it is over and closed the result holds the record-carrying merge.
 -- Clearing the result's head touches no record of the two lists, and closing touches no value.
-use mathlib.Core.Path.{_≡_, refl, sym, ap, ap₂, subst, _∙_}
-use mathlib.Core.List.{List, [], _∷_, _++_, List·Memᴰ, List·Memᴰ·head, List·Memᴰ·tail}
+use mathlib.Core.Path.{_≡_, refl, sym, ap₂, subst, _∙_}
+use mathlib.Core.List.{List, [], _∷_, List·Memᴰ, List·Memᴰ·head, List·Memᴰ·tail}
 use Prim.Native.Nat.{ℕ, _+_, _^_, _≤_, _<_}
 use native.Mathlib.Omega.{arith}
-use lib.ListN.{length, getD, replicate, length-replicate, getD-replicate}
+use lib.ListN.{length, replicate}
 use Rattle.slicing.specs.Item.{Item, size}
 use Rattle.slicing.specs.Good.{Ordered}
 use Rattle.slicing.specs.Recorded.{Recorded, mergeRecorded, items}
-use Rattle.arena.specs.Arena.{level, mWord, adjust}
-use Rattle.arena.specs.Lazy.{nextWith, lastWith, held}
-use Rattle.arena.specs.Chain.{Has, All, Away, Linked, Same, pUnder, after, trues}
-use Rattle.arena.specs.Building.{Built, Cleared}
+use Rattle.arena.specs.Arena.{mWord, adjust}
+use Rattle.arena.specs.Lazy.{held}
+use Rattle.arena.specs.Chain.{All, Away, Linked, Same, pUnder, after, trues}
+use Rattle.arena.specs.Building.{Cleared}
 use Rattle.arena.proofs.Frames.{all-map, all-both, all-refl, same-shape, linked-frame, trues-frame}
 use Rattle.arena.proofs.PutLaws.{same-trans}
 use Rattle.merging.specs.Carried.{carried}
 use Rattle.merging.specs.Cut.{Falling, Searchable}
 use Rattle.merging.specs.Open.{OpenLinked, CutC, Closed}
 use Rattle.merging.specs.Trio.{Trio}
-use Rattle.merging.specs.Running.{Waiting, Running, Confined, Merging, Finished, RunsReady, RunsDone}
+use Rattle.merging.specs.Running.{Merging, Finished, RunsReady, RunsDone}
 use Rattle.merging.specs.Merge.{Mergeable, Merged}
+use Rattle.merging.proofs.OpenLaws.{open-empty, ends-filled}
 use Rattle.merging.proofs.CarriedLaws.{carried-frame, carried-same}
 use Rattle.merging.proofs.ClosingLaws.{closed-value, closed-same}
 use Rattle.merging.proofs.HeldLaws.{held-carried}
@@ -63,25 +64,6 @@ module _ (a b : List ℕ) (ho hn hc : ℕ) (xs ys : List ℕ) (g : Mergeable a h
     still-room room =
         all-both rs (λ x s few. subst (λ (m : ℕ). m + 1 < 2 ^ 32) (sym (s .at 1 (omega arith))) few) records-same room
 
-  open-empty : OpenLinked b hc []
-  unfolding nextWith
-  open-empty =
-      record {
-        has = c .built .linked .has;
-        top = c .built .linked .top;
-        links = record { at = λ k less one. absurd (omega arith) };
-        away = tt;
-        chain = tt;
-      }
-
-  eight-ends : CutC b hc [] (replicate 8 hc)
-  unfolding lastWith
-  eight-ends =
-      record {
-        long = let n : length (replicate 8 hc) ≡ 8 = length-replicate 8 hc in omega arith;
-        at = λ k few. getD-replicate 8 k hc 0 few;
-      }
-
   abbrev older-still : carried b (adjust b ho) xs ≡ held a ho [] xs
   older-still = carried-still ho xs (g .older-result) (g .result-off-older) (g .older)
 
@@ -93,8 +75,8 @@ module _ (a b : List ℕ) (ho hn hc : ℕ) (xs ys : List ℕ) (g : Mergeable a h
       record {
         older = still-searchable ho xs (g .older-result) (g .result-off-older) (g .older) (g .older-few) (g .older-order);
         newer = still-searchable hn ys (g .newer-result) (g .result-off-newer) (g .newer) (g .newer-few) (g .newer-order);
-        result = open-empty;
-        result-ends = eight-ends;
+        result = open-empty b hc (c .built .linked .has) (c .built .linked .top);
+        result-ends = ends-filled b hc;
         older-newer = g .older-newer;
         older-result = g .older-result;
         newer-result = g .newer-result;

@@ -1,7 +1,7 @@
 -- The newer list's step: its calls are ready, and the merge is further on after it.
 -- The first forward of the older list's head is its first record, and what `advance` moves is what `newer-moves` asks.
-use mathlib.Core.Path.{_≡_, refl, sym, ap, subst, _∙_}
-use mathlib.Core.List.{List, [], _∷_, _++_}
+use mathlib.Core.Path.{_≡_, sym, ap, subst, _∙_}
+use mathlib.Core.List.{List, _∷_, _++_}
 use Prim.Native.Nat.{ℕ, _+_, _^_, _≤_, _<_}
 use native.Mathlib.Omega.{arith}
 use lib.ListN.{length}
@@ -10,7 +10,7 @@ use Rattle.arena.specs.Arena.{word, level, mWord, adjust}
 use Rattle.arena.specs.Chain.{Has, pUnder}
 use Rattle.merging.specs.Cut.{front}
 use Rattle.merging.specs.Advance.{behind, Movable, Moved}
-use Rattle.merging.specs.Running.{Running, Merging, Further, NewerReady, NewerDone}
+use Rattle.merging.specs.Running.{Merging, Further, NewerReady, NewerDone}
 use Rattle.merging.proofs.Advancing.{behind-shorter}
 use Rattle.merging.proofs.DropLaws.{same-first, first-has}
 use Rattle.merging.proofs.TrioLaws.{trio-swap, trio-movable}

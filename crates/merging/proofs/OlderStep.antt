@@ -1,20 +1,20 @@
 -- The older list's step: its calls are ready, and the merge is further on after it.
 -- The first forward of the newer list's head is its first record, and what `advance` moves is what `older-stays` and `older-drops` ask.
-use mathlib.Core.Path.{_≡_, refl, sym, ap, subst, _∙_}
-use mathlib.Core.List.{List, [], _∷_, _++_}
-use Prim.Native.Nat.{ℕ, _+_, _^_, _≤_, _<_}
+use mathlib.Core.Path.{_≡_, sym, ap, subst, _∙_}
+use mathlib.Core.List.{List, _∷_, _++_}
+use Prim.Native.Nat.{ℕ, _+_, _≤_, _<_}
 use native.Mathlib.Omega.{arith}
 use lib.ListN.{length, getD}
 use Rattle.slicing.specs.Recorded.{Recorded}
 use Rattle.arena.specs.Arena.{word, level, mWord, adjust}
 use Rattle.arena.specs.Lazy.{lastWith}
-use Rattle.arena.specs.Chain.{Has, All, Linked, pUnder}
+use Rattle.arena.specs.Chain.{Has, Linked, pUnder}
+use Rattle.arena.proofs.ListLaws.{last-all}
 use Rattle.merging.specs.Cut.{front}
-use Rattle.merging.specs.Open.{OpenChain}
 use Rattle.merging.specs.Advance.{behind, Movable, Moved}
 use Rattle.merging.specs.Dropping.{Dropped}
-use Rattle.merging.specs.Running.{Running, Confined, Merging, Further, OlderReady, OlderDone}
-use Rattle.merging.proofs.OpenLaws.{last-all}
+use Rattle.merging.specs.Running.{Confined, Merging, Further, OlderReady, OlderDone}
+use Rattle.merging.proofs.OpenLaws.{open-has}
 use Rattle.merging.proofs.Advancing.{behind-shorter}
 use Rattle.merging.proofs.DropLaws.{same-first, first-has}
 use Rattle.merging.proofs.TrioLaws.{trio-movable, trio-moved}
@@ -59,17 +59,10 @@ module _ (a : List ℕ) (ho hn v : ℕ) (ends : List ℕ) (p : OlderReady a ho h
       pub end-is : getD ends' 0 0 ≡ lastWith b 0 (p .0) result
       end-is = older-moved .ends .at 0 (omega arith)
 
-      pub end-there : 0 < length ends'
-      end-there = let long = older-moved .ends .long in omega arith
-
-      chain-has : (rs : List ℕ) → OpenChain b rs → All (Has b) rs
-      chain-has [] c = tt
-      chain-has (x ∷ rs) c = (c .0 .has, chain-has rs (c .1))
-
       pub end-has : Has b (getD ends' 0 0)
       end-has =
           subst (λ (x : ℕ). Has b x) (sym end-is)
-          (last-all b 0 (Has b) (p .0) result (older-moved .result .has) (chain-has result (older-moved .result .chain)))
+          (last-all b 0 (Has b) (p .0) result (older-moved .result .has) (open-has b result (older-moved .result .chain)))
 
       pub newer-linked : Linked b hn (p .3 ∷ p .4)
       newer-linked =

@@ -1,19 +1,19 @@
 -- What the loop that raises a stretch keeps: if the records left are raised rightly from the arena as it is now, then the whole stretch was raised rightly from the first.
 -- A turn raises one record with link k; those it passes have not the link, and all other records stay.
 use mathlib.Core.Path.{_≡_, refl, sym, ap, subst, _∙_}
-use mathlib.Core.Bool.{Bool, true, false, cond}
+use mathlib.Core.Bool.{true, false, cond}
 use mathlib.Core.List.{List, [], _∷_, _++_}
-use Prim.Native.Nat.{ℕ, zero, suc, _+_, _-_, _*_, _≤_, _<_}
+use Prim.Native.Nat.{ℕ, zero, suc, _+_, _≤_, _<_}
 use native.Mathlib.Omega.{arith}
 use lib.ListN.{length, length-append}
 use lib.Dec.{ltb, eqb}
 use borrow.Author.Tests.{lt-ltb, le-ltb, eq-eqb, ne-eqb}
-use Rattle.arena.specs.Arena.{stride, word, level, mWord, pWord, forward, adjust}
+use Rattle.arena.specs.Arena.{stride, word, level, forward}
 use Rattle.arena.specs.Chain.{Has, put, wrap, All, Away, Same, Shape}
 use Rattle.arena.proofs.Cases.{lt-or-ge}
-use Rattle.arena.proofs.ListLaws.{all-left, all-right}
-use Rattle.arena.proofs.PutLaws.{length-put, word-same, word-other-record, word-other-field, same-put, same-trans}
-use Rattle.arena.proofs.Frames.{same-shape}
+use Rattle.arena.proofs.ListLaws.{all-right}
+use Rattle.arena.proofs.PutLaws.{length-put, word-same, word-other-field, same-refl, same-put, same-trans}
+use Rattle.arena.proofs.Frames.{all-map}
 use Rattle.merging.specs.Lift.{nextOr, Within, Stretch, Lifted, Lifting, Chained}
 
 next-here : (a : List ℕ) (k stop r : ℕ) (rs : List ℕ) → k < level a r → nextOr a k stop (r ∷ rs) ≡ r
@@ -181,18 +181,18 @@ module _ (a b : List ℕ) (k v stop r : ℕ) (small : k < 8) (has : Has a r) (li
         each = lifted-all before low s;
       }
 
+-- Records that have not link k are raised as they stand.
+pub lifted-none : (a : List ℕ) (k v : ℕ) (rs : List ℕ) → All (λ r. level a r ≤ k) rs → All (Lifted a a k v) rs
+lifted-none a k v rs low = all-map rs (λ x h. lifted-untouched a a k v x h (same-refl a x)) low
+
 lifting-none : (a : List ℕ) (k v : ℕ) (rs : List ℕ) → All (λ r. level a r ≤ k) rs → Lifting a a k v rs
 lifting-none a k v rs low =
     record {
       length-kept = refl;
       shape = λ x. record { level-kept = refl; m-kept = refl; forward-kept = λ j h. refl };
-      outside = λ x away. record { at = λ j h. refl };
-      each = each-none rs low;
+      outside = λ x away. same-refl a x;
+      each = lifted-none a k v rs low;
     }
-  where
-    each-none : (rs : List ℕ) → All (λ r. level a r ≤ k) rs → All (Lifted a a k v) rs
-    each-none [] low = tt
-    each-none (x ∷ rs) low = (lifted-untouched a a k v x (low .0) (record { at = λ j h. refl }), each-none rs (low .1))
 
 -- What is left of the stretch rs₀ at the record cur, and what follows once it is raised.
 pub record Left (a₀ a : List ℕ) (k v stop cur : ℕ) (rs₀ : List ℕ) : Type 0 where

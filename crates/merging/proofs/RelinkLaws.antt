@@ -11,10 +11,10 @@ use Rattle.arena.specs.Arena.{stride, word, level, forward}
 use Rattle.arena.specs.Lazy.{nextWith, lastWith}
 use Rattle.arena.specs.Chain.{Has, All, Away, Chain, Linked, Same, Shape, Value}
 use Rattle.arena.proofs.Cases.{lt-or-ge}
-use Rattle.arena.proofs.ListLaws.{last-here, last-none, last-append, all-left, all-right, chain-right}
-use Rattle.arena.proofs.Frames.{all-map, next-frame, same-shape, chain-frame, linked-frame}
+use Rattle.arena.proofs.ListLaws.{last-here, last-none, last-append, all-left, all-right, all-append, chain-right, next-front, next-back, next-none, some-or-none, last-all, last-inside, last-any, last-forward, not-last}
+use Rattle.arena.proofs.Frames.{all-map, all-refl, all-both, next-frame, same-shape, chain-frame, last-frame}
 use Rattle.merging.specs.Open.{OpenLinks, OpenChain, OpenLinked, Relinkable, Relinked}
-use Rattle.merging.proofs.OpenLaws.{all-append, all-every, apart-swap, next-front, next-back, next-none, some-or-none, last-all, last-inside, last-any, last-forward, not-last, last-frame, open-some, open-has}
+use Rattle.merging.proofs.OpenLaws.{open-some, open-has}
 use Rattle.merging.proofs.RelinkWords.{Rewired, Ready, Replaced}
 
 chain-has : (a : List ℕ) (rs : List ℕ) → Chain a rs → All (λ x. Has a x) rs
@@ -58,32 +58,15 @@ module _ (a : List ℕ) (h hc : ℕ) (cs front back cut sums cutc : List ℕ) (n
             (all-left (λ x. (i : ℕ) → i < n → x ≡ getD cutc i 0 → ⊥) front back off-ends) k p;
       }
 
-  -- The two lists are apart again after the front changed sides.
-  front-apart : (xs : List ℕ) → Chain a (xs ++ back) → All (λ x. Away x back) xs
-  front-apart [] c = tt
-  front-apart (x ∷ xs) c = (all-right (λ y. y ≡ x → ⊥) xs back (c .0 .away), front-apart xs (c .1))
-
-  pub apart-again : All (λ x. Away x back) (cs ++ front)
-  apart-again =
-      all-append (λ x. Away x back) cs front
-      (all-map cs (λ x away. all-right (λ y. y ≡ x → ⊥) front back away) (r .apart)) (front-apart front (r .list .chain))
-
-  pub head-away-again : Away h (cs ++ front)
-  head-away-again =
-      all-append (λ x. x ≡ h → ⊥) cs front (r .head-away) (all-left (λ x. x ≡ h → ⊥) front back (r .list .away))
-
-  pub result-away-again : Away hc back
-  result-away-again = all-right (λ x. x ≡ hc → ⊥) front back (r .result-away)
-
   module _ (b : List ℕ) (w : Rewired a b h cut sums cutc n) where
     level-kept : (x : ℕ) → level b x ≡ level a x
     level-kept x = w .plain x 0 (omega arith)
 
     next-kept : (k : ℕ) (rs : List ℕ) → nextWith b k rs ≡ nextWith a k rs
-    next-kept k rs = next-frame a b k rs (all-every (λ x. level b x ≡ level a x) rs level-kept)
+    next-kept k rs = next-frame a b k rs (all-refl rs level-kept)
 
     last-kept : (k x : ℕ) (rs : List ℕ) → lastWith b k x rs ≡ lastWith a k x rs
-    last-kept k x rs = last-frame a b k x rs (all-every (λ y. level b y ≡ level a y) rs level-kept)
+    last-kept k x rs = last-frame a b k x rs (all-refl rs level-kept)
 
     has-kept : (x : ℕ) → Has a x → Has b x
     has-kept x has = let l = w .length-kept in omega arith
@@ -219,9 +202,7 @@ module _ (a : List ℕ) (h hc : ℕ) (cs front back cut sums cutc : List ℕ) (n
         ∙ next-back a k front back (all-map front (λ x low. omega arith) (r .lower)))
 
     rest-shape : (rs : List ℕ) → Away h rs → All (λ x. (k : ℕ) → k < n → x ≡ getD cutc k 0 → ⊥) rs → All (Shape a b) rs
-    rest-shape [] away off = tt
-    rest-shape (x ∷ rs) away off =
-        (same-shape a b x (outside x (away .0) (off .0)), rest-shape rs (away .1) (off .1))
+    rest-shape rs away off = all-both rs (λ x ne other. same-shape a b x (outside x ne other)) away off
 
     list : Linked b h back
     list =
@@ -272,7 +253,7 @@ module _ (a : List ℕ) (h hc : ℕ) (cs front back cut sums cutc : List ℕ) (n
             outside = outside;
           }
 
--- What is left as it was: the values of every record but the head, the records of other lists, and other lists.
+-- What is left as it was: the values of every record but the head, and the records of other lists.
 module _ (a b : List ℕ) (h hc : ℕ) (cs front back cut sums cutc cutd : List ℕ) (n : ℕ) (r : Relinkable a h hc cs front back cut sums cutc n) (d : Relinked a b h hc cs front back cut sums cutc cutd n) where
   pub relinked-value : (x : ℕ) → (x ≡ h → ⊥) → Value a b x
   relinked-value x ne =
@@ -286,15 +267,3 @@ module _ (a b : List ℕ) (h hc : ℕ) (cs front back cut sums cutc cutd : List 
   relinked-same x other head away =
       d .outside x (λ e. other (sym e))
       (λ k p e. end-all a h hc cs front back cut sums cutc n r (λ y. y ≡ x → ⊥) k p head away (sym e))
-
-  same-each : (rs : List ℕ) → Away h rs → Away hc rs → All (λ x. Away x cs) rs → All (Shape a b) rs
-  same-each [] other head away = tt
-  same-each (x ∷ rs) other head away = (
-    same-shape a b x (relinked-same x (λ e. other .0 (sym e)) (λ e. head .0 (sym e)) (away .0)),
-    same-each rs (other .1) (head .1) (away .1),
-  )
-
-  pub relinked-linked : (g : ℕ) (rs : List ℕ) → (h ≡ g → ⊥) → (hc ≡ g → ⊥) → Away g cs → Away h rs → Away hc rs → All (λ x. Away x rs) cs → Linked a g rs → Linked b g rs
-  relinked-linked g rs h-other c-other g-away h-away c-away away l =
-      linked-frame a b g rs (d .length-kept) (same-shape a b g (relinked-same g h-other c-other g-away))
-      (same-each rs h-away c-away (apart-swap cs rs away)) l

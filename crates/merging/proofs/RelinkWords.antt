@@ -4,6 +4,7 @@ use mathlib.Core.Path.{_≡_, refl, sym, ap, subst, _∙_}
 use mathlib.Core.List.{List}
 use Prim.Native.Nat.{ℕ, _+_, _≤_, _<_}
 use native.Mathlib.Omega.{arith}
+use borrow.Author.Count.{below-more}
 use lib.ListN.{length, getD, set, length-set}
 use lib.Seq.{getD-set-same, getD-set-other}
 use Rattle.arena.specs.Arena.{stride, word, forward, adjust}
@@ -11,7 +12,6 @@ use Rattle.arena.specs.Chain.{Has, put}
 use Rattle.arena.proofs.Cases.{eq-or-ne}
 use Rattle.arena.proofs.PutLaws.{length-put, word-same, word-other-record, word-other-field}
 use Rattle.merging.specs.Open.{passOn, relinkOne}
-use Rattle.merging.proofs.OpenLaws.{up-to}
 
 -- One link: from is the last record of the open list, to the last one of the front.
 module _ (a : List ℕ) (h from to k v : ℕ) where
@@ -138,25 +138,26 @@ module _ (a b : List ℕ) (h : ℕ) (cut sums cutc : List ℕ) (n i : ℕ) (less
             let now-is : word next x (11 + i) ≡ word b x (11 + i) = one-adjust-other b h (getD cutc i 0) (getD cut i 0) i (getD sums i 0) s x m in
             subst (λ (y : ℕ). word next x (11 + y) ≡ word b x (11 + y)) (sym e) now-is ∙ w .adjust-other x k p m)
             (λ e. kept x (11 + k) (omega arith) (omega arith) (λ f. e (omega arith)) ∙ w .adjust-other x k p m);
-        adjust-done = λ k p.
-            up-to (λ y. word next h (11 + y) ≡ getD sums y 0) i k p
-            (one-adjust b h (getD cutc i 0) (getD cut i 0) i (getD sums i 0) s (omega arith))
-            (λ e. kept h (11 + k) (omega arith) (omega arith) (omega arith) ∙ w .adjust-done k e);
+        adjust-done =
+            below-more _ _
+            (λ k e. kept h (11 + k) (omega arith) (omega arith) (omega arith) ∙ w .adjust-done k e)
+            (one-adjust b h (getD cutc i 0) (getD cut i 0) i (getD sums i 0) s (omega arith));
         adjust-later = λ k p m. kept h (11 + k) (omega arith) (omega arith) (omega arith) ∙ w .adjust-later k (omega arith) m;
-        from-done = λ k p.
-            up-to (λ y. word next (getD cutc y 0) (3 + y) ≡ word a h (3 + y)) i k p
+        from-done =
+            below-more _ _
+            (λ k e. kept (getD cutc k 0) (3 + k) (omega arith) (omega arith) (omega arith) ∙ w .from-done k e)
             (one-from b h (getD cutc i 0) (getD cut i 0) i (getD sums i 0) s (omega arith) (r .from-not-head i less)
-            ∙ w .forward-later h i (omega arith) s)
-            (λ e. kept (getD cutc k 0) (3 + k) (omega arith) (omega arith) (omega arith) ∙ w .from-done k e);
-        head-done = λ k p.
-            up-to (λ y. word next h (3 + y) ≡ word a (getD cut y 0) (3 + y)) i k p
+            ∙ w .forward-later h i (omega arith) s);
+        head-done =
+            below-more _ _
+            (λ k e. kept h (3 + k) (omega arith) (omega arith) (omega arith) ∙ w .head-done k e)
             (one-head b h (getD cutc i 0) (getD cut i 0) i (getD sums i 0) s (omega arith) (r .to-not-from i less)
-            ∙ w .forward-later (getD cut i 0) i (omega arith) s)
-            (λ e. kept h (3 + k) (omega arith) (omega arith) (omega arith) ∙ w .head-done k e);
+            ∙ w .forward-later (getD cut i 0) i (omega arith) s);
         forward-other = λ x k p m.
-            up-to (λ y. (x ≡ getD cutc y 0 → ⊥) → word next x (3 + y) ≡ word a x (3 + y)) i k p
+            below-more (λ y. (x ≡ getD cutc y 0 → ⊥) → word next x (3 + y) ≡ word a x (3 + y)) i
+            (λ j e o. kept x (3 + j) (omega arith) (omega arith) (omega arith) ∙ w .forward-other x j e m o)
             (λ o. one-forward-other b h (getD cutc i 0) (getD cut i 0) i (getD sums i 0) s x m o ∙ w .forward-later x i (omega arith) s)
-            (λ e o. kept x (3 + k) (omega arith) (omega arith) (omega arith) ∙ w .forward-other x k e m o);
+            k p;
         forward-later = λ x k p m. kept x (3 + k) (omega arith) (omega arith) (omega arith) ∙ w .forward-later x k (omega arith) m;
       }
 
@@ -174,9 +175,9 @@ replaced-turn cut cutc cutd i less r =
     let long = r .length-kept in
     record {
       length-kept = length-set cutd i (getD cut i 0) ∙ long;
-      done = λ k p.
-          up-to (λ y. getD (set cutd i (getD cut i 0)) y 0 ≡ getD cut y 0) i k p
-          (getD-set-same cutd i (getD cut i 0) 0 (omega arith))
-          (λ e. getD-set-other cutd i k (getD cut i 0) 0 (omega arith) ∙ r .done k e);
+      done =
+          below-more _ _
+          (λ k e. getD-set-other cutd i k (getD cut i 0) 0 (omega arith) ∙ r .done k e)
+          (getD-set-same cutd i (getD cut i 0) 0 (omega arith));
       later = λ k p. getD-set-other cutd i k (getD cut i 0) 0 (omega arith) ∙ r .later k (omega arith);
     }

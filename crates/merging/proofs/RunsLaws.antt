@@ -3,7 +3,7 @@
 use mathlib.Core.Path.{_≡_, refl, sym, ap, subst, _∙_}
 use mathlib.Core.Bool.{Bool, true, false, true≢false, false≢true}
 use mathlib.Core.List.{List, [], _∷_, _++_, append-nil}
-use Prim.Native.Nat.{ℕ, zero, suc, _+_, _≤_, _<_}
+use Prim.Native.Nat.{ℕ, _+_, _≤_, _<_}
 use native.Mathlib.Omega.{arith}
 use lib.Dec.{leb}
 use lib.ListN.{length}
@@ -15,7 +15,7 @@ use Rattle.arena.proofs.Cases.{lt-or-ge}
 use Rattle.arena.proofs.Walking.{count, count-is, next-none, next-first}
 use Rattle.merging.specs.Carried.{carried}
 use Rattle.merging.specs.Cut.{Searchable}
-use Rattle.merging.specs.Running.{Merging, Further, StepReady, StepDone, bothWait, Finished, RunsReady, RunsDone}
+use Rattle.merging.specs.Running.{Merging, StepReady, StepDone, bothWait, RunsReady, RunsDone}
 
 -- The test of the loop.
 pub none-waits : (a : List ℕ) (ho hn x : ℕ) → x ≡ word a ho 3 → x < 1 → false ≡ bothWait a ho hn

@@ -1,21 +1,21 @@
 -- What the search keeps: for each link below the present one, the last record with it in front of the whole list is the last one in front of what is left, from the present record on.
 -- A jump passes only records that have not the link, and the level is left where no record in front has it any more.
 use mathlib.Core.Path.{_≡_, refl, sym, ap, subst, _∙_}
-use mathlib.Core.Bool.{Bool, true, false, cond, _&&_, not}
+use mathlib.Core.Bool.{Bool, true, false, cond, _&&_}
 use mathlib.Core.List.{List, [], _∷_, _++_, append-assoc}
-use Prim.Native.Nat.{ℕ, zero, suc, _+_, _-_, _*_, _≤_, _<_}
+use Prim.Native.Nat.{ℕ, suc, _+_, _-_, _≤_, _<_}
 use native.Mathlib.Omega.{arith}
 use lib.ListN.{length, getD, set, length-set, length-append}
 use lib.Seq.{getD-set-same, getD-set-other}
-use lib.Dec.{leb, ltb, eqb}
-use borrow.Author.Tests.{leb-true, leb-false, le-leb, lt-leb, eqb-true, eqb-false, eq-eqb, ne-eqb}
-use Rattle.arena.specs.Arena.{stride, word, level, mWord, forward}
+use lib.Dec.{leb}
+use borrow.Author.Tests.{leb-true, leb-false, le-leb, lt-leb}
+use Rattle.arena.specs.Arena.{word, level, mWord, forward}
 use Rattle.arena.specs.Lazy.{nextWith, lastWith}
-use Rattle.arena.specs.Chain.{Has, All, Links, Member, Chain, Linked}
-use Rattle.arena.proofs.ListLaws.{last-here, last-none, last-append, has-link, Jump, jump, all-left, all-right, chain-right}
+use Rattle.arena.specs.Chain.{Has, All, Links, Chain}
+use Rattle.arena.proofs.ListLaws.{last-here, last-none, last-append, Jump, jump, all-right, chain-right}
 use Rattle.arena.proofs.Walking.{count, count-is, one-list}
 use Rattle.arena.proofs.Frames.{next-here, next-past}
-use Rattle.arena.proofs.Cases.{eq-or-ne}
+use Rattle.arena.proofs.Cases.{lt-or-ge, eq-or-ne}
 use Rattle.merging.specs.Cut.{front, Falling, Searchable, CutAt, passes, Reachable}
 
 pub front-in : (a : List ℕ) (key r : ℕ) (rs : List ℕ) → key ≤ mWord a r → front a key (r ∷ rs) ≡ r ∷ front a key rs
@@ -58,7 +58,7 @@ none-in-front : (a : List ℕ) (k key : ℕ) (rs : List ℕ) → Chain a rs → 
 unfolding front
 none-in-front a k key [] c f e = tt
 none-in-front a k key (r ∷ rs) c f e =
-    has-link a k r
+    lt-or-ge k (level a r)
     (λ h.
     let here = next-here a k r rs h in
     let low : mWord a r < key = passes-no a r key (subst (λ (n : ℕ). passes a n key ≡ false) here e) (c .0 .some) in

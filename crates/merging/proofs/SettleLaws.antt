@@ -1,60 +1,29 @@
 -- Laws of true p where the sums that enter a list change: at one link, for the records before the first with that link; or at links that no record has.
 -- A record reads the sums above its own links alone, and hands on its own adjusts below; so a change at link k is seen up to the first record with link k and not behind it.
 use mathlib.Core.Path.{_≡_, refl, sym, ap, ap₂, _∙_}
-use mathlib.Core.Bool.{false, cond}
 use mathlib.Core.List.{List, [], _∷_, _++_, map}
 use Prim.Native.Nat.{ℕ, zero, suc, _+_, _%_, _^_, _≤_, _<_}
 use native.Mathlib.Numerals.{add-one}
 use native.Mathlib.Omega.{arith}
-use lib.Dec.{leb}
-use borrow.Author.Tests.{lt-ltb, le-ltb, le-leb, lt-leb}
-use Rattle.arena.specs.Arena.{level, pWord, adjust}
+use Rattle.arena.specs.Arena.{level, pWord}
 use Rattle.arena.specs.Lazy.{sumFrom}
 use Rattle.arena.specs.Chain.{wrap, All, pUnder, after, trues, leaving, Shape, Value}
 use Rattle.arena.proofs.Cases.{lt-or-ge}
-use Rattle.arena.proofs.Frames.{sum-frame, trues-frame}
+use Rattle.arena.proofs.Frames.{sum-agree, sum-frame, after-in, after-out, trues-frame}
+use Rattle.arena.proofs.SumLaws.{sum-none, sum-more}
 use Rattle.merging.specs.Lift.{Lifted}
 use Rattle.merging.proofs.LiftLaws.{Bumped, under-lifted, after-lifted}
 
--- A sum over the links from l up to n reads its function there alone.
-pub sum-agree : (f g : ℕ → ℕ) (l n : ℕ) → ((j : ℕ) → l ≤ j → j < n → g j ≡ f j) → sumFrom g l n ≡ sumFrom f l n
-unfolding sumFrom
-sum-agree f g l zero e = refl
-sum-agree f g l (suc n) e =
-    lt-or-ge n l (λ p. ap₂ _+_ (sum-agree f g l n (λ j low high. e j low (omega arith))) (simp (lt-leb l n p)))
-    (λ p.
-    ap₂ _+_ (sum-agree f g l n (λ j low high. e j low (omega arith))) (ap (λ (x : ℕ). cond (leb l n) x 0) (e n p (omega arith))))
-
-pub sum-empty : (f : ℕ → ℕ) (l n : ℕ) → n ≤ l → sumFrom f l n ≡ 0
-unfolding sumFrom
-sum-empty f l zero h = refl
-sum-empty f l (suc n) h =
-    let here : leb l n ≡ false = lt-leb l n (omega arith) in simp here (omega (arith, sum-empty f l n (omega arith)))
-
-pub sum-last : (f : ℕ → ℕ) (l n : ℕ) → l ≤ n → sumFrom f l (suc n) ≡ sumFrom f l n + f n
-unfolding sumFrom
-sum-last f l n h = simp (le-leb l n h)
-
--- Up to m and from m on.
+-- A sum over the links from l up to n is that up to m and that from m on.
 pub sum-split : (f : ℕ → ℕ) (l m n : ℕ) → l ≤ m → m ≤ n → sumFrom f l n ≡ sumFrom f l m + sumFrom f m n
-sum-split f l m zero low high = omega (arith, sum-empty f l zero (omega arith), sum-empty f m zero (omega arith), sum-empty f l m (omega arith))
+sum-split f l m zero low high = omega (arith, sum-none f l zero (omega arith), sum-none f m zero (omega arith), sum-none f l m (omega arith))
 sum-split f l m (suc n) low high =
     lt-or-ge n m
     (λ p.
     let same : m ≡ suc n = omega arith in
-    let none : sumFrom f m (suc n) ≡ 0 = sum-empty f m (suc n) (omega arith) in
+    let none : sumFrom f m (suc n) ≡ 0 = sum-none f m (suc n) (omega arith) in
     ap (sumFrom f l) (sym same) ∙ omega arith)
-    (λ p. omega (arith, sum-last f l n (omega arith), sum-last f m n p, sum-split f l m n low p))
-
--- The sums after a record.
-module _ (a : List ℕ) (f : ℕ → ℕ) (r j : ℕ) where
-  pub after-in : j < level a r → after a f r j ≡ adjust a r j
-  unfolding after
-  after-in h = simp (lt-ltb j (level a r) h)
-
-  pub after-out : level a r ≤ j → after a f r j ≡ f j
-  unfolding after
-  after-out h = simp (le-ltb j (level a r) h)
+    (λ p. omega (arith, sum-more f l n (omega arith), sum-more f m n p, sum-split f l m n low p))
 
 add-both : (t x y : ℕ) → x % 2 ^ 32 ≡ y % 2 ^ 32 → (t + x) % 2 ^ 32 ≡ (t + y) % 2 ^ 32
 add-both t x y e = omega arith
@@ -62,8 +31,8 @@ add-both t x y e = omega arith
 -- The difference of two sums over the links from n on, one link after the other.
 pub above-none : (f g : ℕ → ℕ) (n : ℕ) → (0 + sumFrom f n n) % 2 ^ 32 ≡ sumFrom g n n % 2 ^ 32
 above-none f g n =
-    let none : sumFrom f n n ≡ 0 = sum-empty f n n (omega arith) in
-    let nor : sumFrom g n n ≡ 0 = sum-empty g n n (omega arith) in
+    let none : sumFrom f n n ≡ 0 = sum-none f n n (omega arith) in
+    let nor : sumFrom g n n ≡ 0 = sum-none g n n (omega arith) in
     omega arith
 
 one-link : (d e s t x y : ℕ) → (d + s) % 2 ^ 32 ≡ t % 2 ^ 32 → (e + x) % 2 ^ 32 ≡ (d + y) % 2 ^ 32 → (e + (s + x)) % 2 ^ 32 ≡ (t + y) % 2 ^ 32
@@ -73,9 +42,9 @@ one-link d e s t x y p q =
 
 pub above-next : (f g : ℕ → ℕ) (n k d e : ℕ) → n ≤ k → (d + sumFrom f n k) % 2 ^ 32 ≡ sumFrom g n k % 2 ^ 32 → (e + f k) % 2 ^ 32 ≡ (d + g k) % 2 ^ 32 → (e + sumFrom f n (k + 1)) % 2 ^ 32 ≡ sumFrom g n (k + 1) % 2 ^ 32
 above-next f g n k d e low p q =
-    ap (λ (x : ℕ). (e + x) % 2 ^ 32) (ap (sumFrom f n) (add-one k) ∙ sum-last f n k low)
+    ap (λ (x : ℕ). (e + x) % 2 ^ 32) (ap (sumFrom f n) (add-one k) ∙ sum-more f n k low)
     ∙ one-link d e (sumFrom f n k) (sumFrom g n k) (f k) (g k) p q
-    ∙ ap (λ (x : ℕ). x % 2 ^ 32) (sym (ap (sumFrom g n) (add-one k) ∙ sum-last g n k low))
+    ∙ ap (λ (x : ℕ). x % 2 ^ 32) (sym (ap (sumFrom g n) (add-one k) ∙ sum-more g n k low))
 
 -- The first record, if there is one, has link k: sums that differ at k alone are the same to such a list.
 abbrev pub Starts : List ℕ → ℕ → List ℕ → Type 0

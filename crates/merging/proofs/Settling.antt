@@ -2,7 +2,7 @@
 -- A turn raises these at the link below, so that the raised sum of that link would make each true p right; the carry to the next link is what is left of that sum, and only the records before the first with the link see it.
 use mathlib.Core.Path.{_≡_, refl, sym, ap, ap₂, subst, _∙_}
 use mathlib.Core.Bool.{cond}
-use mathlib.Core.List.{List, [], _++_, map, append-assoc}
+use mathlib.Core.List.{List, [], _++_, map, append-nil, append-assoc}
 use Prim.Native.Nat.{ℕ, suc, _+_, _-_, _%_, _^_, _≤_, _<_}
 use native.Mathlib.Nat.{mod-add-mod}
 use native.Mathlib.Omega.{arith}
@@ -13,14 +13,15 @@ use Rattle.arena.specs.Arena.{word, level}
 use Rattle.arena.specs.Lazy.{nextWith, sumFrom}
 use Rattle.arena.specs.Chain.{Has, wrap, All, Away, Chain, Linked, trues, leaving, Same, Shape, Value}
 use Rattle.arena.proofs.Cases.{lt-or-ge}
-use Rattle.arena.proofs.ListLaws.{last-none, all-left}
+use Rattle.arena.proofs.ListLaws.{last-none, all-left, last-forward}
 use Rattle.arena.proofs.PutLaws.{same-refl, same-trans}
-use Rattle.arena.proofs.Frames.{all-map, same-value, linked-frame, trues-frame}
-use Rattle.merging.specs.Lift.{Lifted, Lifting, Chained}
+use Rattle.arena.proofs.Frames.{all-map, all-refl, same-value, linked-frame, sum-agree, trues-frame}
+use Rattle.merging.specs.Lift.{Lifting, Chained}
 use Rattle.merging.specs.Settled.{headSums, lastSums, Ready, Settled}
 use Rattle.merging.proofs.LiftLaws.{Bumped}
-use Rattle.merging.proofs.SettleLaws.{sum-agree, trues-parted, trues-above}
-use Rattle.merging.proofs.FrontLaws.{Parts, parts, parts-whole, append-none, starts-lower, all-of, apart-from, last-forward, last-has, no-links, chained-low, next-low}
+use Rattle.merging.proofs.Raising.{lifted-none}
+use Rattle.merging.proofs.SettleLaws.{trues-parted, trues-above}
+use Rattle.merging.proofs.FrontLaws.{Parts, parts, parts-whole, starts-lower, apart-from, last-has, no-links, chained-low, next-low}
 
 -- The sums that enter the front: those of the head below link i, and those that it is to be entered with from i on.
 unfoldable pub entering : List ℕ → ℕ → List ℕ → ℕ → ℕ → ℕ
@@ -82,7 +83,7 @@ module _ (a : List ℕ) (head n carry stop q d : ℕ) (cut cutc : List ℕ) (sum
             first-stop ∙ ap (λ (x : ℕ). word a x (3 + (n - 1))) (r .cut-at)
             ∙ last-forward a (n - 1) head front back (r .linked .links .at (n - 1) (omega arith)) (r .linked .chain);
         owed =
-            append-none (map (λ (t : ℕ). wrap t carry) (trues a f front))
+            append-nil (map (λ (t : ℕ). wrap t carry) (trues a f front))
             ∙ trues-above a n carry q most f (headSums a head) (λ j h. entering-low a head cutc n j h)
             (ap₂ (λ (c : ℕ) (x : ℕ). (c + x) % 2 ^ 32) first-carry same ∙ carry-is q d (sumFrom (lastSums a cutc) n 8) (sumFrom (headSums a head) n 8) sums)
             front (r .lower);
@@ -130,19 +131,13 @@ module _ (a : List ℕ) (head : ℕ) (cutc : List ℕ) (i k carry : ℕ) where
             (λ h. entering-high a head cutc i j (omega arith) ∙ sym (entering-high a head cutc k j h));
       }
 
-lifted-none : (a : List ℕ) (k v : ℕ) (xs : List ℕ) → All (λ x. level a x ≤ k) xs → All (Lifted a a k v) xs
-lifted-none a k v xs low =
-    all-map xs
-    (λ x h. record { p-up = λ p. absurd (omega arith); adjust-up = λ p. absurd (omega arith); adjust-other = λ j few ne. refl; untouched = λ p. same-refl a x })
-    low
-
 -- One turn at the link i - 1, from the head's forward on.
 module _ (a₀ b : List ℕ) (head n i carry stop q : ℕ) (cut cutc : List ℕ) (g : Settling a₀ b head n i carry stop q cut cutc) (more : 0 < i) (front back : List ℕ) (r : Ready a₀ head n cut cutc front back) where
   abbrev l : Left a₀ b head i carry stop q cutc front back
   l = g .left front back r
 
   linked : Linked b head (front ++ back)
-  linked = linked-frame a₀ b head (front ++ back) (g .length-kept) (l .shape head) (all-of (Shape a₀ b) (l .shape) (front ++ back)) (r .linked)
+  linked = linked-frame a₀ b head (front ++ back) (g .length-kept) (l .shape head) (all-refl (front ++ back) (l .shape)) (r .linked)
 
   small : i - 1 < 8
   small = let below = g .below in let most = r .most in omega arith
@@ -180,7 +175,7 @@ module _ (a₀ b : List ℕ) (head n i carry stop q : ℕ) (cut cutc : List ℕ)
         }
 
     linked' : Linked b' head (front ++ back)
-    linked' = linked-frame b b' head (front ++ back) long (lift .shape head) (all-of (Shape b b') (lift .shape) (front ++ back)) linked
+    linked' = linked-frame b b' head (front ++ back) long (lift .shape head) (all-refl (front ++ back) (lift .shape)) linked
 
     part' : Parts b' (i - 1) front
     part' = parts b' (i - 1) front
@@ -215,7 +210,7 @@ module _ (a₀ b : List ℕ) (head n i carry stop q : ℕ) (cut cutc : List ℕ)
         (all-map (part' .low) (λ x h. omega arith) (part' .lower))
         (λ x. record { level-kept = refl; m-kept = refl; forward-kept = λ j h. refl })
         (lifted-none b' (i - 1) carry' (part' .low) (part' .lower)) (part' .starts)
-        (all-of (Value b' b') (λ x. same-value b' b' x (same-refl b' x)) (part' .rest)))
+        (all-refl (part' .rest) (λ x. same-value b' b' x (same-refl b' x))))
         ∙ ap (trues b' (raisedSums a₀ head cutc i (i - 1) carry)) (sym (part' .split))
         ∙ right-raised
 
@@ -256,7 +251,7 @@ module _ (b : List ℕ) (f : ℕ → ℕ) (c : ℕ) (front low rest target : Lis
 pub settling-done : (a₀ b : List ℕ) (head n i carry stop q : ℕ) (cut cutc : List ℕ) → Settling a₀ b head n i carry stop q cut cutc → i ≤ 0 → (front back : List ℕ) → Ready a₀ head n cut cutc front back → Settled a₀ b head q cutc front
 settling-done a₀ b head n i carry stop q cut cutc g end front back r =
     let l = g .left front back r in
-    let linked = linked-frame a₀ b head (front ++ back) (g .length-kept) (l .shape head) (all-of (Shape a₀ b) (l .shape) (front ++ back)) (r .linked) in
+    let linked = linked-frame a₀ b head (front ++ back) (g .length-kept) (l .shape head) (all-refl (front ++ back) (l .shape)) (r .linked) in
     let chain = subst (Chain b) (ap (λ (x : List ℕ). x ++ back) (l .part .split) ∙ append-assoc (l .part .low) (l .part .rest) back) (linked .chain) in
     let none = no-links b (l .part .low) (l .part .rest ++ back) chain (all-map (l .part .low) (λ x h. omega arith) (l .part .lower)) in
     record {
@@ -265,6 +260,6 @@ settling-done a₀ b head n i carry stop q cut cutc g end front back r =
       outside = l .outside;
       values =
           trues-frame b b (entering a₀ head cutc i) (lastSums a₀ cutc) front (λ k h. sym (entering-high a₀ head cutc i k (omega arith)))
-          (all-of (Value b b) (λ x. same-value b b x (same-refl b x)) front)
+          (all-refl front (λ x. same-value b b x (same-refl b x)))
           ∙ all-settled b (entering a₀ head cutc i) carry front (l .part .low) (l .part .rest) (map (λ (t : ℕ). wrap t q) (trues a₀ (headSums a₀ head) front)) none (l .part .split) (l .owed);
     }

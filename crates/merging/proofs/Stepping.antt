@@ -1,13 +1,12 @@
 -- A step of the merge: it moves a run of the list whose first m is the larger, and the merge is further on after it.
 -- The first forwards of the two heads are the first records of the lists, so the words compared are their m.
-use mathlib.Core.Path.{_≡_, sym, ap, subst, _∙_}
-use mathlib.Core.List.{List, _∷_}
+use mathlib.Core.Path.{_≡_, ap, _∙_}
+use mathlib.Core.List.{List}
 use Prim.Native.Nat.{ℕ, _≤_, _<_}
 use native.Mathlib.Omega.{arith}
-use Rattle.slicing.specs.Recorded.{Recorded}
 use Rattle.arena.specs.Arena.{word, mWord}
 use Rattle.arena.specs.Chain.{Has}
-use Rattle.merging.specs.Running.{Merging, StepReady, StepDone, OlderReady, OlderDone, NewerReady, NewerDone}
+use Rattle.merging.specs.Running.{StepReady, StepDone, OlderReady, OlderDone, NewerReady, NewerDone}
 use Rattle.merging.proofs.DropLaws.{same-first, first-has}
 
 module _ (a : List ℕ) (ho hn v w : ℕ) (ends : List ℕ) (e : v ≡ word a ho 3) (f : w ≡ word a hn 3) where

@@ -1,12 +1,12 @@
 -- A step of the merge leaves what the merge is to give as it was: a run of one list goes to the result with the other list's first p, and the rest waits.
 -- The merge of the definitions makes the same run at once, since every item of it has a larger m than what waits, or the same as the other list's first.
 use mathlib.Core.Path.{_≡_, refl, sym, ap, ap₂, subst, _∙_}
-use mathlib.Core.List.{List, [], _∷_, _++_, append-assoc, List·Memᴰ, List·Memᴰ·head, List·Memᴰ·tail, List·Memᴰ·not-nil, List·Memᴰ·cases-cons, Memᴰ·append-left, Memᴰ·append-right}
+use mathlib.Core.List.{List, [], _∷_, _++_, append-assoc, map-append, List·Memᴰ, List·Memᴰ·head, List·Memᴰ·tail, List·Memᴰ·not-nil, List·Memᴰ·cases-cons, Memᴰ·append-left, Memᴰ·append-right}
 use mathlib.Core.Logic.{⊎-elim}
-use Prim.Native.Nat.{ℕ, zero, suc, _+_, _^_, _≤_, _<_}
+use Prim.Native.Nat.{ℕ, _+_, _^_, _≤_, _<_}
 use native.Mathlib.Omega.{arith}
 use mathlib.Core.Bool.{cond}
-use lib.Dec.{leb, eqb}
+use lib.Dec.{eqb}
 use lib.ListN.{length}
 use borrow.Author.Tests.{le-leb, lt-leb, eq-eqb, ne-eqb}
 use Rattle.slicing.specs.Item.{Item, size}
@@ -24,12 +24,11 @@ use Rattle.merging.specs.Advance.{behind, Moved}
 use Rattle.merging.specs.Open.{OpenChain}
 use Rattle.merging.proofs.SearchLaws.{front-in}
 use Rattle.merging.specs.Carried.{paired, carried}
-use Rattle.merging.specs.Trio.{Trio}
 use Rattle.merging.specs.Dropping.{Dropped}
 use Rattle.merging.specs.Running.{Waiting, Running}
 use Rattle.merging.proofs.Advancing.{front-behind}
 use Rattle.merging.proofs.TrioLaws.{trio-swap, trio-moved, newer-carried, trio-dropped, dropped-older, dropped-result, dropped-newer}
-use Rattle.merging.proofs.CarriedLaws.{trues-length, carried-append, carried-frame, Below, moved-older, moved-newer}
+use Rattle.merging.proofs.CarriedLaws.{trues-length, carried-cons, carried-append, carried-frame, Below, moved-older, moved-newer}
 
 -- Every record in front is not below the key.
 front-above : (a : List ℕ) (key : ℕ) (rs : List ℕ) → All (λ x. key ≤ mWord a x) (front a key rs)
@@ -55,10 +54,6 @@ ordered-left (y ∷ l) k o = (λ z i. o .0 z (Memᴰ·append-left k i), ordered-
 ordered-right : (l k : List Item) → Ordered (l ++ k) → Ordered k
 ordered-right [] k o = o
 ordered-right (y ∷ l) k o = ordered-right l k (o .1)
-
-items-append : (l k : List Recorded) → items (l ++ k) ≡ items l ++ items k
-items-append [] k = refl
-items-append (x ∷ l) k = ap (λ (c : List Item). x .item ∷ c) (items-append l k)
 
 all-kept : (a b rs : List ℕ) → ((x : ℕ) → mWord b x ≡ mWord a x) → All (λ x. mWord a x + 1 < 2 ^ 32) rs → All (λ x. mWord b x + 1 < 2 ^ 32) rs
 all-kept a b rs e h = all-map rs (λ x small. let same = e x in omega arith) h
@@ -89,7 +84,7 @@ module _ (a b : List ℕ) (ho hn hc key q r : ℕ) (xs ys cs ends ends' : List �
   rest-carried = carried-frame a b (leaving a (adjust a ho) (front a key (r ∷ xs))) (adjust b ho) (behind a key (r ∷ xs)) (d .m-kept) (d .rest-values)
 
   pub orders : Ordered (items moved ++ items left)
-  orders = subst (λ (l : List Item). Ordered l) (ap items older-parts ∙ items-append moved left) (w .older-order)
+  orders = subst (λ (l : List Item). Ordered l) (ap items older-parts ∙ map-append (λ (x : Recorded). x .item) moved left) (w .older-order)
 
   pub newer-kept : carried b (adjust b hn) ys ≡ carried a (adjust a hn) ys
   newer-kept = newer-carried a b ho hn hc key q r xs ys cs ends ends' (w .lists) d
@@ -118,10 +113,6 @@ module _ (a b : List ℕ) (ho hn hc y : ℕ) (xs ys cs ends : List ℕ) (w : Wai
   abbrev first : Recorded
   first = record { number = y; item = size (mWord a y) (pUnder a (adjust a hn) y) }
 
-  newer-parts : carried a (adjust a hn) (y ∷ ys) ≡ first ∷ carried a (after a (adjust a hn) y) ys
-  unfolding carried trues
-  newer-parts = refl
-
   abbrev older-same : carried b (adjust b ho) xs ≡ carried a (adjust a ho) xs
   older-same = dropped-older a b ho hn hc y xs ys cs ends (w .lists) d
 
@@ -133,10 +124,10 @@ module _ (a b : List ℕ) (ho hn hc y : ℕ) (xs ys cs ends : List ℕ) (w : Wai
       record {
         lists = trio-dropped a b ho hn hc y xs ys cs ends (w .lists) d;
         older-order = subst (λ (l : List Recorded). Ordered (items l)) (sym older-same) (w .older-order);
-        newer-order = subst (λ (l : List Recorded). Ordered (items l)) (sym newer-same) (subst (λ (l : List Recorded). Ordered (items l)) newer-parts (w .newer-order) .1);
+        newer-order = subst (λ (l : List Recorded). Ordered (items l)) (sym newer-same) (subst (λ (l : List Recorded). Ordered (items l)) (carried-cons a (adjust a hn) y ys) (w .newer-order) .1);
         small = λ x z i j.
             w .small x z (subst (λ (l : List Recorded). List·Memᴰ x l) older-same i)
-            (subst (λ (l : List Recorded). List·Memᴰ z l) (sym newer-parts) (List·Memᴰ·tail (subst (λ (l : List Recorded). List·Memᴰ z l) newer-same j)));
+            (subst (λ (l : List Recorded). List·Memᴰ z l) (sym (carried-cons a (adjust a hn) y ys)) (List·Memᴰ·tail (subst (λ (l : List Recorded). List·Memᴰ z l) newer-same j)));
         older-room = all-kept a b xs (d .m-kept) (w .older-room);
         newer-room = all-kept a b ys (d .m-kept) (w .newer-room .1);
       }
@@ -183,10 +174,6 @@ module _ (a b : List ℕ) (ho hn hc r s : ℕ) (xs ys cs ends ends' : List ℕ) 
   abbrev later : List Recorded
   later = carried a (after a (adjust a hn) s) ys
 
-  newer-first : (e : List ℕ) (f : ℕ → ℕ) → carried e f (s ∷ ys) ≡ record { number = s; item = size (mWord e s) (pUnder e f s) } ∷ carried e (after e f s) ys
-  unfolding carried trues
-  newer-first e f = refl
-
   parts : carried a (adjust a ho) (r ∷ xs) ≡ gone ++ stays
   parts = older-parts a b ho hn hc (mWord a s) (pUnder a (adjust a hn) s) r xs (s ∷ ys) cs ends ends' (run .waits) d
 
@@ -200,7 +187,7 @@ module _ (a b : List ℕ) (ho hn hc r s : ℕ) (xs ys cs ends ends' : List ℕ) 
   below : Below (against .item .p) gone
   below x i =
       run .waits .small x against (subst (λ (l : List Recorded). List·Memᴰ x l) (sym parts) (Memᴰ·append-left stays i))
-      (subst (λ (l : List Recorded). List·Memᴰ against l) (sym (newer-first a (adjust a hn))) (List·Memᴰ·head refl))
+      (subst (λ (l : List Recorded). List·Memᴰ against l) (sym (carried-cons a (adjust a hn) s ys)) (List·Memᴰ·head refl))
 
   result-carried : carried b (adjust b hc) (cs ++ fr) ≡ carried a (adjust a hc) cs ++ raisedOlder 0 against gone
   result-carried = moved-older a b (adjust a hc) (adjust b hc) (adjust a ho) cs fr against (d .m-kept) (d .values) below
@@ -211,7 +198,7 @@ module _ (a b : List ℕ) (ho hn hc r s : ℕ) (xs ys cs ends ends' : List ℕ) 
       ∙ append-assoc (carried a (adjust a hc) cs) (raisedOlder 0 against gone) (mergeRecorded 0 stays (leftAfter against gone later))
       ∙ ap (λ (l : List Recorded). carried a (adjust a hc) cs ++ l)
       (sym (batch-run 0 against gone stays later (ordered-left (items gone) (items stays) whole-order) above)
-      ∙ ap₂ (λ (l k : List Recorded). mergeRecorded 0 l k) (sym parts) (sym (newer-first a (adjust a hn))))
+      ∙ ap₂ (λ (l k : List Recorded). mergeRecorded 0 l k) (sym parts) (sym (carried-cons a (adjust a hn) s ys)))
       ∙ run .gives
 
   some-moved : 1 ≤ length fr
@@ -243,12 +230,12 @@ module _ (a b : List ℕ) (ho hn hc r s : ℕ) (xs ys cs ends ends' : List ℕ) 
         waits = waits-moved;
         gives =
             ap₂ (λ (l k : List Recorded). carried b (adjust b hc) (cs ++ fr) ++ mergeRecorded 0 l k) back-carried
-            (newer-still ∙ newer-first a (adjust a hn) ∙ sym (left-after ∙ ap (λ t. cond t later (against ∷ later)) (ne-eqb (mWord b end) (mWord a s) other)))
+            (newer-still ∙ carried-cons a (adjust a hn) s ys ∙ sym (left-after ∙ ap (λ t. cond t later (against ∷ later)) (ne-eqb (mWord b end) (mWord a s) other)))
             ∙ older-gives;
       }
 
   later-still : carried b (after b (adjust b hn) s) ys ≡ later
-  later-still = ap rest (sym (newer-first b (adjust b hn)) ∙ newer-still ∙ newer-first a (adjust a hn))
+  later-still = ap rest (sym (carried-cons b (adjust b hn) s ys) ∙ newer-still ∙ carried-cons a (adjust a hn) s ys)
     where
       rest : List Recorded → List Recorded
       rest [] = []
@@ -289,10 +276,6 @@ module _ (a b : List ℕ) (ho hn hc r s : ℕ) (xs ys cs ends ends' : List ℕ) 
   abbrev remains : List Recorded
   remains = carried a (leaving a (adjust a hn) run-of) kept
 
-  older-first : carried a (adjust a ho) (r ∷ xs) ≡ facing ∷ others
-  unfolding carried trues
-  older-first = refl
-
   newer-split : carried a (adjust a hn) (s ∷ ys) ≡ taken ++ remains
   newer-split = older-parts a b hn ho hc (mWord a r + 1) (pUnder a (adjust a ho) r) s ys (r ∷ xs) cs ends ends' swapped d
 
@@ -305,7 +288,7 @@ module _ (a b : List ℕ) (ho hn hc r s : ℕ) (xs ys cs ends ends' : List ℕ) 
   fits : Below (facing .item .p) taken
   fits x i =
       swapped .small x facing (subst (λ (l : List Recorded). List·Memᴰ x l) (sym newer-split) (Memᴰ·append-left remains i))
-      (subst (λ (l : List Recorded). List·Memᴰ facing l) (sym older-first) (List·Memᴰ·head refl))
+      (subst (λ (l : List Recorded). List·Memᴰ facing l) (sym (carried-cons a (adjust a ho) r xs)) (List·Memᴰ·head refl))
 
   finished : carried b (adjust b hc) (cs ++ run-of) ≡ carried a (adjust a hc) cs ++ raisedNewer 0 facing taken
   finished = moved-newer a b (adjust a hc) (adjust b hc) (adjust a hn) cs run-of facing (d .m-kept) (d .values) fits
@@ -316,7 +299,7 @@ module _ (a b : List ℕ) (ho hn hc r s : ℕ) (xs ys cs ends ends' : List ℕ) 
       ∙ append-assoc (carried a (adjust a hc) cs) (raisedNewer 0 facing taken) (mergeRecorded 0 (facing ∷ others) remains)
       ∙ ap (λ (l : List Recorded). carried a (adjust a hc) cs ++ l)
       (sym (batch-newer 0 facing taken others remains larger)
-      ∙ ap₂ (λ (l k : List Recorded). mergeRecorded 0 l k) (sym older-first) (sym newer-split))
+      ∙ ap₂ (λ (l k : List Recorded). mergeRecorded 0 l k) (sym (carried-cons a (adjust a ho) r xs)) (sym newer-split))
       ∙ run .gives
 
   pub newer-moves : Running b ho hn hc (r ∷ xs) kept (cs ++ run-of) ends' all
@@ -327,7 +310,7 @@ module _ (a b : List ℕ) (ho hn hc r s : ℕ) (xs ys cs ends ends' : List ℕ) 
             (waiting-moved a b hn ho hc (mWord a r + 1) (pUnder a (adjust a ho) r) s ys (r ∷ xs) cs ends ends' swapped d);
         gives =
             ap₂ (λ (l k : List Recorded). carried b (adjust b hc) (cs ++ run-of) ++ mergeRecorded 0 l k)
-            (newer-kept a b hn ho hc (mWord a r + 1) (pUnder a (adjust a ho) r) s ys (r ∷ xs) cs ends ends' swapped d ∙ older-first)
+            (newer-kept a b hn ho hc (mWord a r + 1) (pUnder a (adjust a ho) r) s ys (r ∷ xs) cs ends ends' swapped d ∙ carried-cons a (adjust a ho) r xs)
             (rest-carried a b hn ho hc (mWord a r + 1) (pUnder a (adjust a ho) r) s ys (r ∷ xs) cs ends ends' swapped d)
             ∙ newer-gives;
       }

@@ -1,25 +1,23 @@
 -- The three lists of a merge after a run was moved to the result, and after the first record of one list has left.
 -- Each step changes one list and the result, and leaves every record and head of the other list.
-use mathlib.Core.Path.{_≡_, refl, sym, ap, subst, _∙_}
+use mathlib.Core.Path.{_≡_, sym, ap, subst, _∙_}
 use mathlib.Core.List.{List, [], _∷_, _++_}
-use Prim.Native.Nat.{ℕ, suc, _+_, _≤_, _<_}
+use Prim.Native.Nat.{ℕ, _+_, _≤_}
 use native.Mathlib.Omega.{arith}
 use lib.ListN.{length, length-append}
-use Rattle.slicing.specs.Recorded.{Recorded}
-use Rattle.arena.specs.Arena.{level, mWord, adjust}
-use Rattle.arena.specs.Chain.{All, Away, Chain, Linked, trues, after, leaving, Same, Shape, Value}
-use Rattle.arena.proofs.ListLaws.{all-left, all-right}
+use Rattle.arena.specs.Arena.{mWord, adjust}
+use Rattle.arena.specs.Chain.{All, Away, Chain, after, Same}
+use Rattle.arena.proofs.ListLaws.{all-append, apart-swap}
 use Rattle.arena.proofs.Frames.{all-map, same-shape, same-value, linked-frame, trues-frame}
 use Rattle.merging.specs.Cut.{front, Falling, Searchable}
-use Rattle.merging.specs.Open.{OpenLinked, CutC}
 use Rattle.merging.specs.Advance.{behind, Movable, Moved}
 use Rattle.merging.specs.Dropping.{Dropped}
 use Rattle.merging.specs.Carried.{carried}
 use Rattle.merging.specs.Trio.{Trio}
 use Rattle.merging.proofs.SearchLaws.{falling-right}
 use Rattle.merging.proofs.FrontLaws.{apart-from}
-use Rattle.merging.proofs.OpenLaws.{all-append, apart-swap, ends-frame, open-frame, all-every}
-use Rattle.merging.proofs.Advancing.{front-behind}
+use Rattle.merging.proofs.OpenLaws.{ends-frame, open-frame}
+use Rattle.merging.proofs.Advancing.{front-behind, all-front, all-behind}
 use Rattle.merging.proofs.CarriedLaws.{carried-frame}
 
 -- The older list and the newer one in each other's place.
@@ -62,9 +60,6 @@ falling-frame a b [] e f = tt
 falling-frame a b (r ∷ rs) e f =
     (all-map rs (λ x h. let p = e x in let q = e r in omega arith) (f .0), falling-frame a b rs e (f .1))
 
-all-off : (P Q : ℕ → Type 0) (rs : List ℕ) → ((x : ℕ) → P x → Q x) → All P rs → All Q rs
-all-off P Q rs f h = all-map {P = P} {Q = Q} rs f h
-
 -- A list that a step leaves alone.
 module _ (a b : List ℕ) (g : ℕ) (rs : List ℕ) (long : length b ≡ length a) (same-m : (x : ℕ) → mWord b x ≡ mWord a x) (head : Same a b g) (each : All (Same a b) rs) where
   pub left-alone : Searchable a g rs → Searchable b g rs
@@ -94,17 +89,11 @@ module _ (a b : List ℕ) (ho hn hc key q r : ℕ) (xs ys cs ends ends' : List �
   chain : Chain a (fr ++ back)
   chain = subst (λ (l : List ℕ). Chain a l) whole (t .older .linked .chain)
 
-  parted : (P : ℕ → Type 0) → All P (r ∷ xs) → All P (fr ++ back)
-  parted P h = subst (λ (l : List ℕ). All P l) whole h
-
-  off-split : (x : ℕ) → Away x (r ∷ xs) → Away x (fr ++ back)
-  off-split x h = subst (λ (l : List ℕ). Away x l) whole h
-
   off-fr : (x : ℕ) → Away x (r ∷ xs) → Away x fr
-  off-fr x h = all-left (λ z. z ≡ x → ⊥) fr back (off-split x h)
+  off-fr x h = all-front (λ z. z ≡ x → ⊥) a key (r ∷ xs) h
 
   off-back : (x : ℕ) → Away x (r ∷ xs) → Away x back
-  off-back x h = all-right (λ z. z ≡ x → ⊥) fr back (off-split x h)
+  off-back x h = all-behind (λ z. z ≡ x → ⊥) a key (r ∷ xs) h
 
   newer-head : Same a b hn
   newer-head = d .outside hn (t .older-newer) (λ e. t .newer-result (sym e)) (t .newer-off-result) (off-fr hn (t .newer-off-older))
@@ -148,9 +137,9 @@ module _ (a b : List ℕ) (ho hn hc key q r : ℕ) (xs ys cs ends ends' : List �
         newer-off-result = all-append (λ x. x ≡ hn → ⊥) cs fr (t .newer-off-result) (off-fr hn (t .newer-off-older));
         result-off-older = off-back hc (t .result-off-older);
         result-off-newer = t .result-off-newer;
-        lists-apart = all-right (λ x. Away x ys) fr back (parted (λ x. Away x ys) (t .lists-apart));
+        lists-apart = all-behind (λ x. Away x ys) a key (r ∷ xs) (t .lists-apart);
         result-older-apart = all-append (λ x. Away x back) cs fr (all-map cs (λ x h. off-back x h) (t .result-older-apart)) fr-back;
-        result-newer-apart = all-append (λ x. Away x ys) cs fr (t .result-newer-apart) (all-left (λ x. Away x ys) fr back (parted (λ x. Away x ys) (t .lists-apart)));
+        result-newer-apart = all-append (λ x. Away x ys) cs fr (t .result-newer-apart) (all-front (λ x. Away x ys) a key (r ∷ xs) (t .lists-apart));
       }
 
   pub newer-carried : carried b (adjust b hn) ys ≡ carried a (adjust a hn) ys
@@ -159,8 +148,7 @@ module _ (a b : List ℕ) (ho hn hc key q r : ℕ) (xs ys cs ends ends' : List �
 -- The first record of the newer list has left.
 module _ (a b : List ℕ) (ho hn hc y : ℕ) (xs ys cs ends : List ℕ) (t : Trio a ho hn hc xs (y ∷ ys) cs ends) (d : Dropped a b hn y ys) where
   same-of : (zs : List ℕ) → Away hn zs → All (Same a b) zs
-  same-of [] p = tt
-  same-of (z ∷ zs) p = (d .outside z (p .0), same-of zs (p .1))
+  same-of zs p = all-map zs (d .outside) p
 
   older-head : Same a b ho
   older-head = d .outside ho (t .older-newer)

@@ -7,7 +7,7 @@ use lib.Dec.{leb}
 use lib.ListN.{length}
 use Rattle.arena.specs.Arena.{level, mWord, adjust}
 use Rattle.arena.specs.Chain.{wrap, All, Away, Linked, trues, leaving, Same}
-use Rattle.merging.specs.Cut.{front, Searchable}
+use Rattle.merging.specs.Cut.{Searchable}
 use Rattle.merging.specs.Open.{OpenLinked, CutC}
 
 -- The records of rs from the first whose m is below the key on.

@@ -1,6 +1,6 @@
 -- What the leaving of a list's first record does: the head takes over its forwards and its adjusts, up to its level. No public contract cites it.
 use mathlib.Core.Path.{_≡_}
-use mathlib.Core.List.{List, _∷_}
+use mathlib.Core.List.{List}
 use Prim.Native.Nat.{ℕ, zero, suc, _+_, _<_}
 use lib.ListN.{length}
 use Rattle.arena.specs.Arena.{word, level, mWord, adjust}

@@ -3,12 +3,11 @@
 use mathlib.Core.Path.{_≡_, refl, sym, subst, _∙_}
 use mathlib.Core.List.{List}
 use Prim.Native.Nat.{ℕ, _+_, _≤_, _<_}
-use native.Mathlib.Numerals.{add-one}
 use native.Mathlib.Omega.{arith}
+use borrow.Author.Count.{below-more}
 use lib.ListN.{length}
 use Rattle.arena.specs.Arena.{stride, word}
 use Rattle.arena.specs.Chain.{Has, put, Same}
-use Rattle.arena.proofs.Cases.{eq-or-ne, last-or-below}
 use Rattle.arena.proofs.PutLaws.{length-put, word-same, word-other-record, word-other-field, same-refl}
 use Rattle.parts.specs.Copying.{Copied}
 
@@ -39,9 +38,8 @@ copying-more a from to b c j v has s less read e =
       within = omega arith;
       length-kept = length-put b to j v ∙ long;
       done =
-          λ i p. last-or-below i j (subst (λ (n : ℕ). i < n) (add-one j) p)
-          (λ f. rw f (word-same b to j v here less ∙ read ∙ s .left j (omega arith) less))
-          (λ below. word-other-field b to j v to i (λ f. omega arith) less (omega arith) ∙ s .done i below);
+          below-more _ _ (λ i below. word-other-field b to j v to i (λ f. omega arith) less (omega arith) ∙ s .done i below)
+          (word-same b to j v here less ∙ read ∙ s .left j (omega arith) less);
       left = λ i p q. word-other-field b to j v from i (λ f. omega arith) less q ∙ s .left i (omega arith) q;
       outside = λ x p. record { at = λ i w. word-other-record b to j v x i p less w ∙ s .outside x p .at i w };
     })

@@ -2,9 +2,9 @@
 -- Stacked parts run by width and others by height, which is how the list of each is defined.
 use mathlib.Core.Path.{_≡_, refl, sym, ap, ap₂, subst, _∙_}
 use mathlib.Core.List.{List}
-use Prim.Native.Nat.{ℕ, _+_, _*_, _≤_, _<_}
+use Prim.Native.Nat.{ℕ, _+_, _≤_}
 use native.Mathlib.Omega.{arith}
-use lib.ListN.{length, length-append}
+use lib.ListN.{length-append}
 use Rattle.slicing.specs.Tree.{Tree, gauge, beside, stacked, sizesOf, gaugeCount, sizeCount}
 use Rattle.slicing.specs.Good.{Good}
 use Rattle.slicing.specs.Recorded.{Recorded, mergeRecorded, turnRecorded, shapesRecorded, partRecorded}

@@ -1,16 +1,15 @@
 -- Two parts that were joined are one part: the record-carrying merge of their lists, each turned where it ran the other way.
 -- Their records are neighbouring ranges and the heads are no size's records, so that each call leaves what the next one needs.
-use mathlib.Core.Path.{_≡_, refl, sym, ap, ap₂, subst, _∙_}
+use mathlib.Core.Path.{_≡_, refl, sym, ap₂, subst, _∙_}
 use mathlib.Core.Bool.{Bool, true, false, cond}
 use mathlib.Core.List.{List, [], _∷_, List·Memᴰ, List·Memᴰ·head, List·Memᴰ·tail}
-use Prim.Native.Nat.{ℕ, _+_, _*_, _-_, _^_, _≤_, _<_}
+use Prim.Native.Nat.{ℕ, _+_, _^_, _≤_, _<_}
 use native.Mathlib.Omega.{arith}
-use lib.ListN.{length, getD}
 use Rattle.slicing.specs.Good.{Ordered}
 use Rattle.slicing.specs.Recorded.{Recorded, mergeRecorded, items}
-use Rattle.arena.specs.Arena.{level, mWord}
+use Rattle.arena.specs.Arena.{mWord}
 use Rattle.arena.specs.Lazy.{held}
-use Rattle.arena.specs.Chain.{Has, All, Away, Same}
+use Rattle.arena.specs.Chain.{All, Away, Same}
 use Rattle.arena.proofs.Cases.{lt-or-ge}
 use Rattle.arena.proofs.Frames.{all-map}
 use Rattle.arena.proofs.PutLaws.{same-trans}
@@ -272,17 +271,6 @@ module _ (a : List ℕ) (place : ℕ) (s t : Bool) where
           (_, _, join-mergeable (p .0) a place (p .1) (p .2) (p .3) (p .4) (p .5) s t (p .6) b x (older-faces (p .0) (p .1) (p .2) (p .3) (p .4) (p .5) (p .6)) c y (newer-faces (p .0) (p .1) (p .2) (p .3) (p .4) (p .5) (p .6)))
 
       module _ (d : List ℕ) (m : (xs ys : List ℕ) → Mergeable c x y 0 xs ys → Merged c d x y 0 xs ys) where
-        pub join-copies : Ready a place s t → Has d 0 × Has d (headOf place)
-        join-copies p =
-            let g = p .6 in
-            let made = m _ _ (join-merges p .2) in
-            let l1 = older-faces (p .0) (p .1) (p .2) (p .3) (p .4) (p .5) g .length-kept in
-            let l2 = newer-faces (p .0) (p .1) (p .2) (p .3) (p .4) (p .5) g .length-kept in
-            let l3 = made .length-kept in
-            let long = g .older-range .long in
-            let low = g .low-place in
-            (omega arith, omega arith)
-
         pub join-done : (e : List ℕ) → Copied d 0 (headOf place) e → (levels : List ℕ) (lo mid hi : ℕ) (l k : List Recorded) → Joinable levels a place lo mid hi l k s t → Joined levels a e place lo mid hi l k s t
         join-done e copied levels lo mid hi l k g =
             let f₁ = older-faces levels lo mid hi l k g in

@@ -1,12 +1,10 @@
 -- A gauge that was loaded is a part: its sizes, in the records from its first size's number on, each with its lent level.
 -- The loaded list has no adjusts, so that every p is the true one.
-use mathlib.Core.Path.{_≡_, refl, sym, ap, ap₂, subst, _∙_}
+use mathlib.Core.Path.{_≡_, refl, sym, ap, ap₂, _∙_}
 use mathlib.Core.List.{List, [], _∷_, map}
-use Prim.Native.Nat.{ℕ, zero, suc, _+_, _*_, _-_, _≤_, _<_}
-use native.Mathlib.Numerals.{add-one}
+use Prim.Native.Nat.{ℕ, zero, suc, _+_, _-_, _≤_, _<_}
 use native.Mathlib.Omega.{arith}
-use lib.ListN.{length, getD, take, drop}
-use lib.Seq.{getD-take, getD-drop, length-take-le}
+use lib.ListN.{length, getD, drop}
 use Rattle.slicing.specs.Item.{Item, size}
 use Rattle.slicing.specs.Tree.{gauge}
 use Rattle.slicing.specs.Recorded.{Recorded, numbered, partRecorded}
@@ -14,9 +12,8 @@ use Rattle.facefile.specs.Sizes.{sizesIn}
 use Rattle.facefile.proofs.SizesIn.{in-length}
 use Rattle.arena.specs.Arena.{level, mWord, adjust}
 use Rattle.arena.specs.Lazy.{held}
-use Rattle.arena.specs.Chain.{All, trues}
+use Rattle.arena.specs.Chain.{All}
 use Rattle.arena.specs.Loading.{numbers, Loaded}
-use Rattle.arena.proofs.Frames.{all-map}
 use Rattle.merging.specs.Carried.{paired, carried}
 use Rattle.merging.proofs.HeldLaws.{held-carried, carried-sums}
 use Rattle.parts.specs.Part.{Part}

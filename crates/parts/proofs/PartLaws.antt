@@ -7,11 +7,10 @@ use native.Mathlib.Omega.{arith}
 use lib.ListN.{length, getD}
 use Rattle.slicing.specs.Recorded.{Recorded}
 use Rattle.arena.specs.Arena.{stride, word, level, adjust}
-use Rattle.arena.specs.Lazy.{nextWith, held}
-use Rattle.arena.specs.Chain.{Has, All, Away, Links, Linked, Same}
+use Rattle.arena.specs.Lazy.{held}
+use Rattle.arena.specs.Chain.{Has, All, Away, Same}
 use Rattle.arena.specs.Building.{Built}
-use Rattle.arena.proofs.Frames.{all-map, all-both, same-shape, next-frame, chain-frame, linked-frame}
-use Rattle.merging.specs.Carried.{carried}
+use Rattle.arena.proofs.Frames.{all-map, same-shape, next-frame, chain-frame}
 use Rattle.merging.proofs.HeldLaws.{held-carried}
 use Rattle.merging.proofs.CarriedLaws.{carried-same}
 use Rattle.parts.specs.Part.{Part}

@@ -1,15 +1,15 @@
 -- The parts of the stack stand in the arena as long as the records below their end and their heads do.
 -- Each part has its own range of records and its own head.
-use mathlib.Core.Path.{_≡_, refl, sym, ap, subst, _∙_}
-use mathlib.Core.List.{List, [], _∷_, _++_}
-use Prim.Native.Nat.{ℕ, suc, _+_, _≤_, _<_}
+use mathlib.Core.Path.{_≡_}
+use mathlib.Core.List.{List, [], _∷_}
+use Prim.Native.Nat.{ℕ, _+_, _≤_, _<_}
 use native.Mathlib.Omega.{arith}
 use lib.ListN.{length, length-append}
-use Rattle.slicing.specs.Tree.{Tree, sizesOf, sizeCount}
+use Rattle.slicing.specs.Tree.{Tree, sizesOf}
 use Rattle.slicing.specs.Recorded.{partRecorded}
 use Rattle.facefile.specs.Tracking.{flat}
 use Rattle.arena.specs.Chain.{Same}
-use Rattle.parts.specs.Part.{headOf, Part, Parts}
+use Rattle.parts.specs.Part.{headOf, Parts}
 use Rattle.parts.proofs.PartLaws.{part-frame}
 
 pub parts-some : (levels a : List ℕ) (stack : List Tree) (hi : ℕ) → Parts levels a stack hi → 1 ≤ hi

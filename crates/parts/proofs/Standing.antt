@@ -2,15 +2,14 @@
 -- A gauge is loaded after all that is there, and a join takes the last two parts off and puts one in their place.
 use mathlib.Core.Path.{_≡_, refl, sym, ap, ap₂, subst, _∙_}
 use mathlib.Core.Bool.{Bool}
-use mathlib.Core.List.{List, [], _∷_, _++_}
-use Prim.Native.Nat.{ℕ, zero, suc, _+_, _*_, _-_, _≤_, _<_}
+use mathlib.Core.List.{List, [], _∷_}
+use Prim.Native.Nat.{ℕ, suc, _+_, _*_, _-_, _≤_, _<_}
 use native.Mathlib.Numerals.{add-one}
 use native.Mathlib.Omega.{arith}
 use lib.ListN.{length, getD, set, take, drop, length-set, length-append, length-drop}
 use lib.Seq.{getD-take, getD-drop, length-take-le}
 use Rattle.checks.specs.Answer.{taken}
 use Rattle.checks.proofs.Answers.{same-taken}
-use Rattle.slicing.specs.Item.{Item}
 use Rattle.slicing.specs.Tree.{Tree, gauge, gaugesOf, sizesOf, gaugeCount, sizeCount}
 use Rattle.slicing.specs.Good.{Good}
 use Rattle.slicing.specs.Recorded.{Recorded, mergeRecorded, partRecorded}
@@ -18,18 +17,18 @@ use Rattle.slicing.proofs.PartLists.{part-few}
 use Rattle.slicing.proofs.Depths.{depth-few}
 use Rattle.facefile.specs.Format.{State, start, faceOf}
 use Rattle.facefile.specs.Tracking.{flat}
-use Rattle.facefile.proofs.Took.{state, Cut, cut-beside, cut-stacked}
+use Rattle.facefile.proofs.Took.{state, Cut}
 use Rattle.facefile.proofs.Taken.{GoodParts, face-taken}
 use Rattle.facefile.proofs.Stacks.{reads-flat, sizes-join}
-use Rattle.facefile.proofs.PartArray.{Held, held-push, push-held, stack-few}
+use Rattle.facefile.proofs.PartArray.{Held, push-held, stack-few}
 use Rattle.facefile.proofs.Walk.{Walk, walk-start, walk-end, GaugeTurn, gauge-turn, JoinTurn, join-turn}
-use Rattle.arena.specs.Chain.{Has, Away, Same}
+use Rattle.arena.specs.Chain.{Away}
 use Rattle.arena.specs.Loading.{numbers, Loadable, Loaded}
 use Rattle.facefile.specs.Sizes.{sizesIn}
 use Rattle.facefile.proofs.SizesIn.{from-in, in-same, in-length}
 use Rattle.parts.specs.Part.{headOf, Part, Suits, Parts}
 use Rattle.parts.specs.Copying.{Copied}
-use Rattle.parts.specs.Joining.{turnedIf, Ranged, Joinable, Joined}
+use Rattle.parts.specs.Joining.{turnedIf, Joinable, Joined}
 use Rattle.facefile.specs.Kinds.{kindOf, across}
 use Rattle.parts.specs.Building.{Buildable, Whole}
 use Rattle.parts.proofs.PartLaws.{away-out, part-copied}

@@ -3,21 +3,21 @@
 use mathlib.Core.Path.{_≡_, refl, sym, ap, subst, _∙_}
 use mathlib.Core.Bool.{Bool, true, false}
 use mathlib.Core.List.{List, [], _∷_, map, reverse, reverseAux}
-use Prim.Native.Nat.{ℕ, suc, _+_, _*_, _-_, _≤_, _<_}
+use Prim.Native.Nat.{ℕ, _≤_, _<_}
 use native.Mathlib.Omega.{arith}
-use lib.ListN.{length, getD, length-map}
+use lib.ListN.{length, length-map}
 use Rattle.slicing.specs.Item.{size}
 use Rattle.slicing.specs.Recorded.{Recorded, swapRecorded, turnRecorded}
 use Rattle.arena.specs.Arena.{level, mWord, adjust}
 use Rattle.arena.specs.Lazy.{held}
-use Rattle.arena.specs.Chain.{Has, All, Away, trues, Same}
+use Rattle.arena.specs.Chain.{All, Away}
 use Rattle.arena.specs.Turning.{Turnable, Turned}
 use Rattle.arena.proofs.Cases.{eq-or-ne}
 use Rattle.arena.proofs.PutLaws.{same-refl}
 use Rattle.merging.specs.Carried.{paired, carried}
 use Rattle.merging.proofs.HeldLaws.{held-carried, carried-sums}
 use Rattle.parts.specs.Part.{Part}
-use Rattle.parts.specs.Joining.{turnedIf, Ranged, Turns, Faces}
+use Rattle.parts.specs.Joining.{Turns, Faces}
 use Rattle.parts.proofs.PartLaws.{away-out, part-length}
 
 paired-back : (b rs xs ps qs : List ℕ) → length ps ≡ length rs → paired b (reverseAux rs xs) (reverseAux ps qs) ≡ reverseAux (paired b rs ps) (paired b xs qs)

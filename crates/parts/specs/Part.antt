@@ -4,7 +4,7 @@ use mathlib.Core.List.{List, [], _∷_, List·Memᴰ}
 use Prim.Native.Nat.{ℕ, _+_, _-_, _≤_, _<_}
 use lib.ListN.{length, getD}
 use Rattle.slicing.specs.Good.{Ordered}
-use Rattle.slicing.specs.Tree.{Tree, gauge, beside, stacked, sizeCount}
+use Rattle.slicing.specs.Tree.{Tree, sizeCount}
 use Rattle.slicing.specs.Recorded.{Recorded, items, partRecorded}
 use Rattle.arena.specs.Arena.{level}
 use Rattle.arena.specs.Lazy.{held}

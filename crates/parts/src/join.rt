@@ -1,5 +1,4 @@
 // The join of two parts.
-ghost use mathlib.Core.Bool.{Bool};
 ghost use mathlib.Core.List.{List};
 ghost use Prim.Native.Nat.{ℕ};
 ghost use Rattle.slicing.specs.Recorded.{Recorded};

@@ -4,8 +4,10 @@ use mathlib.Core.Path.{_≡_, refl, sym, ap, ap₂, _∙_}
 use mathlib.Core.List.{List, [], _∷_, _++_}
 use Prim.Native.Nat.{ℕ, suc, _+_, _≤_}
 use native.Mathlib.Omega.{arith}
-use lib.ListN.{length, set, drop, length-append}
-use lib.Seq.{sets, sets-eq, length-sets, length-take-le}
+use lib.ListN.{length, set, length-append}
+use lib.Seq.{sets, length-sets, length-take-le}
+use Rattle.shapes.specs.Listing.{writtenOver}
+use Rattle.shapes.proofs.WordLaws.{over-sets}
 use Rattle.report.specs.Printing.{Printed, Counted}
 use Rattle.report.specs.Appending.{Appended}
 
@@ -42,13 +44,13 @@ joined {m} {k} {old} {at} {a} {mid} {i} {b} {new} {j} s t =
     }
 
 pub from-start : (most : ℕ) (old bytes new : List ℕ) (next : ℕ) → Appended most old 0 bytes new next → most ≤ length old → Printed bytes old new next
+unfolding writtenOver
 from-start most old bytes new next s room =
     let few = s .few in
     let place = s .place in
-    let all : 0 + length bytes ≡ length bytes = omega arith in
     record {
       count = omega arith;
-      bytes = s .text ∙ sets-eq bytes old 0 (omega arith) ∙ ap (λ (n : ℕ). bytes ++ drop n old) all;
+      bytes = s .text ∙ over-sets bytes old (omega arith);
     }
 
 pub counted : (most : ℕ) (old bytes new : List ℕ) (next : ℕ) → Appended most old 0 bytes new next → most ≤ length old → Counted most new next

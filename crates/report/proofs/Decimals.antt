@@ -1,14 +1,13 @@
 -- A number below ten is one digit, any other is the digits of its tenth and then its last; a number below 2^32 has at most ten digits.
 -- The count of divisions that the definition carries does not matter from the number on, since a tenth of a number is smaller.
 use mathlib.Core.Path.{_≡_, refl, sym, ap, _∙_}
-use mathlib.Core.Bool.{Bool, true, false}
 use mathlib.Core.List.{List, [], _∷_, _++_}
 use Prim.Native.Nat.{ℕ, zero, suc, _+_, _/_, _%_, _^_, _≤_, _<_}
 use native.Mathlib.Nat.{pow-suc}
 use native.Mathlib.Omega.{arith}
-use lib.Dec.{ltb}
 use lib.ListN.{length, length-append}
-use borrow.Author.Tests.{ltb-true, ltb-false, lt-ltb, le-ltb}
+use borrow.Author.Tests.{lt-ltb, le-ltb}
+use Rattle.arena.proofs.Cases.{lt-or-ge}
 use Rattle.report.specs.Text.{digit, decimalBy, decimal}
 
 by-small : (k n : ℕ) → n < 10 → decimalBy k n ≡ digit n ∷ []
@@ -20,18 +19,11 @@ by-large : (k n : ℕ) → 10 ≤ n → decimalBy (suc k) n ≡ decimalBy k (n /
 unfolding decimalBy
 by-large k n high = rw (le-ltb n 10 high, decimalBy)
 
-small-or-large : {P : Type 0} (n : ℕ) → (n < 10 → P) → (10 ≤ n → P) → P
-small-or-large {P} n f g = go (ltb n 10) refl
-  where
-    go : (b : Bool) → ltb n 10 ≡ b → P
-    go true e = f (ltb-true n 10 e)
-    go false e = g (ltb-false n 10 e)
-
 by-same : (j k n : ℕ) → n ≤ j → n ≤ k → decimalBy j n ≡ decimalBy k n
 by-same zero k n u v = by-small zero n (omega arith) ∙ sym (by-small k n (omega arith))
 by-same (suc j) zero n u v = by-small (suc j) n (omega arith) ∙ sym (by-small zero n (omega arith))
 by-same (suc j) (suc k) n u v =
-    small-or-large n
+    lt-or-ge n 10
     (λ low. by-small (suc j) n low ∙ sym (by-small (suc k) n low))
     (λ high. by-large j n high
     ∙ ap (λ (l : List ℕ). l ++ (digit (n % 10) ∷ [])) (by-same j k (n / 10) (omega arith) (omega arith))
@@ -58,7 +50,7 @@ digits-few zero n low =
     let one = ap length (decimal-small n low) in
     omega arith
 digits-few (suc k) n low =
-    small-or-large n
+    lt-or-ge n 10
     (λ one. let e = ap length (decimal-small n one) in omega arith)
     (λ high.
     let ten = pow-suc 10 (suc k) in

@@ -1,11 +1,16 @@
--- Document 01's example prints exactly the text that the document shows.
--- The checker computes the definition on the three items, the best of them, and the fit's output of ten words.
-use mathlib.Core.Path.{_≡_, refl}
+-- For document 01's file of 28 bytes `faces` prints exactly the text that the document shows.
+-- The checker computes the list, the best item and its layout from the face that the file means, and the text from these.
+use mathlib.Core.Path.{_≡_, ap}
 use mathlib.Core.List.{List, [], _∷_}
 use Prim.Native.Nat.{ℕ}
-use Rattle.slicing.specs.Item.{size}
+use Rattle.slicing.specs.Merge.{merge}
+use Rattle.slicing.specs.Shapes.{shapes}
+use Rattle.slicing.specs.Fit.{smallest, noTaller, indexOf, place}
+use Rattle.facefile.proofs.Example.{example as file, example-face}
 use Rattle.report.specs.Text.{facesText}
+use Rattle.report.specs.Faces.{answerPrinted, facesPrinted}
 
+-- The text that the document shows.
 abbrev pub example : List ℕ
 example =
     -- faces 3
@@ -23,6 +28,6 @@ example =
     -- gauge 2 size 1 at 40 0
     0x67 ∷ 0x61 ∷ 0x75 ∷ 0x67 ∷ 0x65 ∷ 0x20 ∷ 0x32 ∷ 0x20 ∷ 0x73 ∷ 0x69 ∷ 0x7A ∷ 0x65 ∷ 0x20 ∷ 0x31 ∷ 0x20 ∷ 0x61 ∷ 0x74 ∷ 0x20 ∷ 0x34 ∷ 0x30 ∷ 0x20 ∷ 0x30 ∷ 0x0A ∷ []
 
-pub example-text : facesText (size 60 70 ∷ size 50 90 ∷ size 40 110 ∷ []) (size 60 70) (1 ∷ 0 ∷ 0 ∷ 40 ∷ 60 ∷ 1 ∷ 40 ∷ 0 ∷ 30 ∷ 50 ∷ []) ≡ example
-unfolding facesText
-example-text = refl
+pub example-printed : facesPrinted file ≡ example
+unfolding facesPrinted shapes merge smallest place noTaller indexOf facesText
+example-printed = ap answerPrinted example-face

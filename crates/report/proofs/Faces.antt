@@ -2,7 +2,7 @@
 -- The words of the items are those of their list, so the lines by words are the lines of the list, and the bounds of the four parts add up.
 use mathlib.Core.Path.{_≡_, refl, ap, ap₂, _∙_}
 use mathlib.Core.List.{List, [], _∷_, _++_}
-use Prim.Native.Nat.{ℕ, _+_, _*_, _/_, _≤_}
+use Prim.Native.Nat.{ℕ, _*_, _/_, _≤_}
 use native.Mathlib.Omega.{arith}
 use lib.ListN.{length}
 use Rattle.slicing.specs.Item.{Item, height, width}

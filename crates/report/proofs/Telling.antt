@@ -1,11 +1,11 @@
 -- The text that is rendered of what the list call and the fit call leave is the one of the face, and of a refused file the one of its check.
 -- The words of the list and of the layout stand at the starts of the outputs, and the answer of the fit says which of the two texts is due.
 use mathlib.Core.Path.{_≡_, refl, sym, ap, subst, _∙_}
-use mathlib.Core.List.{List, _++_}
+use mathlib.Core.List.{List}
 use Prim.Native.Nat.{ℕ, _*_, _≤_, _<_}
 use native.Mathlib.Omega.{arith}
 use lib.ListN.{length, take, drop, length-take}
-use lib.Seq.{take-append-seam}
+use lib.Seq.{take-at, length-take-le}
 use Rattle.checks.specs.Answer.{Answer, taken}
 use Rattle.slicing.specs.Item.{Item}
 use Rattle.slicing.specs.Tree.{Tree, gaugeCount}
@@ -57,7 +57,7 @@ module _ (face : Fitted) (count : ℕ) (items : List ℕ) (gauges : ℕ) (layout
 -- What stands at the start of an output.
 starts : (k : ℕ) (words old new : List ℕ) → new ≡ writtenOver words old → k ≡ length words → take k new ≡ words
 unfolding writtenOver
-starts k words old new e n = ap (λ (l : List ℕ). take k l) e ∙ ap (λ (i : ℕ). take i (words ++ drop (length words) old)) n ∙ take-append-seam words (drop (length words) old)
+starts k words old new e n = ap (λ (l : List ℕ). take k l) e ∙ take-at words (drop (length words) old) k (sym n)
 
 laid-by : (t : Tree) (p : Pick) (gauges : ℕ) (old new : List ℕ) → gauges ≡ gaugeCount t → new ≡ faceWords t p old → (z : Item) → p ≡ picked z → take (5 * gauges) new ≡ words t (place 0 t z 0 0)
 laid-by t p gauges old new g e z is =
@@ -136,25 +136,15 @@ module _ (file : List ℕ) (f : Face) (read : f ≡ summary (faceOf file)) where
       let bad = answer-refused f (faceOf file) read other in
       other-text (refusedText (f .number)) (facesPrinted file) old new r (ap refusedText (bad .2) ∙ sym (ap answerPrinted (bad .1))) p
 
-  tallied : f .number ≡ 0 → Tallied file (f .gauges) (f .sizes)
-  tallied zero =
-      let face = answer-taken f (faceOf file) read zero in
-      record { tree = face .tree; face = face .face; gauges-is = face .gauges; sizes-is = face .sizes }
-
   -- The levels buffer is lent as many bytes.
   pub tallied-part : f .number ≡ 0 → (n : ℕ) → f .sizes ≡ n → Tallied file (f .gauges) n
-  tallied-part zero n e = subst (λ (x : ℕ). Tallied file (f .gauges) x) e (tallied zero)
-
-  pub sizes-few : f .number ≡ 0 → f .sizes ≤ 512
-  sizes-few zero =
-      let k = tallied zero in
-      let most = face-taken file (k .tree) (k .face) .most in
-      let n = k .sizes-is in
-      omega arith
+  tallied-part zero n e =
+      let face = answer-taken f (faceOf file) read zero in
+      record { tree = face .tree; face = face .face; gauges-is = face .gauges; sizes-is = sym e ∙ face .sizes }
 
 -- As many words or bytes as a part is to have.
 pub part-counted : (k : ℕ) (l : List ℕ) → k ≤ length l → k ≡ length (take k l)
-part-counted k l h = omega (arith, length-take k l)
+part-counted k l h = sym (length-take-le k l h)
 
 pub part-few : (k most : ℕ) (l : List ℕ) → length l ≤ most → length (take k l) ≤ most
 part-few k most l h = omega (arith, length-take k l)

@@ -1,4 +1,4 @@
--- What a function that writes bytes into a buffer at a place leaves, and the lines of the items by their words. No public contract but those of `write_bytes` and `write_number` cites it.
+-- What a function that writes bytes into a buffer at a place leaves, and the lines of the items by their words. No public contract cites it.
 use mathlib.Core.Path.{_≡_}
 use mathlib.Core.List.{List, [], _∷_, _++_}
 use Prim.Native.Nat.{ℕ, _+_, _≤_}

@@ -7,10 +7,9 @@ use Rattle.checks.specs.Check.{Fits, numberOf}
 use Rattle.checks.specs.Answer.{Answer, refused, taken}
 use Rattle.slicing.specs.Tree.{Tree}
 use Rattle.slicing.specs.Shapes.{shapes}
-use Rattle.slicing.specs.Layout.{Outline}
+use Rattle.slicing.specs.Layout.{Outline, outline}
 use Rattle.slicing.specs.Fit.{Pick, nothing, picked, smallest, place, words}
 use Rattle.facefile.specs.Format.{faceOf}
-use Rattle.fit.specs.Picking.{outline}
 use Rattle.report.specs.Text.{facesText, refusedText}
 use Rattle.report.specs.Printing.{Printed, textBytes}
 

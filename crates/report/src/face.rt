@@ -9,8 +9,8 @@ ghost use Rattle.report.specs.Printing.{Printed, Counted, textBytes};
 ghost use Rattle.report.specs.Faces.{widest, pickPrinted, facesPrinted, FacesText};
 ghost use Rattle.report.specs.Telling.{Tallied, Levelled, Worked};
 use crate::TEXT;
-use crate::render;
-use crate::render_refused;
+use crate::render::render;
+use crate::render::render_refused;
 use fit::Fitted;
 
 // The height and the width of the opening.

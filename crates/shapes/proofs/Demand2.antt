@@ -1,36 +1,19 @@
 -- Demand 2 of what the list call leaves, in the demand's own order: the output and the arena of every call that is taken.
 -- The call's contract equates them with the definitions, and the laws of shape lists say the rest; no levels stand in the list.
 use mathlib.Core.Path.{_≡_, refl, sym, ap, subst, _∙_}
-use mathlib.Core.List.{List, []}
-use Prim.Native.Nat.{ℕ, _+_, _≤_}
+use mathlib.Core.List.{List}
+use Prim.Native.Nat.{ℕ}
 use lib.ListN.{length}
-use Rattle.checks.specs.Answer.{Answer, taken, next}
+use Rattle.checks.specs.Answer.{Answer, taken}
 use Rattle.checks.proofs.Answers.{same-taken, next-taken, number-taken}
-use Rattle.slicing.specs.Item.{Item}
 use Rattle.slicing.specs.Tree.{Tree, gaugeCount, sizeCount}
 use Rattle.slicing.specs.Shapes.{shapes}
-use Rattle.slicing.specs.Recorded.{partRecorded}
-use Rattle.slicing.proofs.Demand2.{OuterSizes, Demand2, demand-2}
+use Rattle.slicing.proofs.Demand2.{demand-2}
 use Rattle.facefile.specs.Format.{faceOf}
 use Rattle.facefile.proofs.Taken.{face-taken}
-use Rattle.arena.specs.Lazy.{lazyList}
 use Rattle.shapes.specs.declared.Listed.{Listed}
-use Rattle.shapes.specs.Listing.{lentChecks, listCall, listed, listWords, writtenOver, listOutput, RootList, ListArena, ListScratch}
-use Rattle.shapes.proofs.ListCall.{Promised}
-
--- What a taken call leaves of the face t.
-pub record ListMeans (levels output : List ℕ) (r : Listed) (arena' output' : List ℕ) (t : Tree) : Type 0 where
-  -- "The list of outer sizes is the maxplus merge of Stockmeyer, as Chen and Zhou state it, carried up the tree": this list stands in the output, and the count is its length.
-  pub list : List Item
-  pub merged : list ≡ shapes 0 t
-  pub written : output' ≡ writtenOver (listWords list) output
-  pub counted : r .count ≡ length list
-  -- "Each item comes from one choice of size per gauge. Each choice is met by an item no taller and no wider. Heights fall and widths rise strictly down the list."
-  pub outer : OuterSizes 0 t list
-  -- "With n sizes and g gauges it has at most n - g + 1 items."
-  pub short : length list + gaugeCount t ≤ sizeCount t + 1
-  -- "The lazy lists give that same list": it is the arena's, with each item's record, turned where the root is stacked.
-  pub lazy : RootList levels arena' t
+use Rattle.shapes.specs.Listing.{lentChecks, listCall}
+use Rattle.shapes.specs.Demand2.{Promised, ListMeans}
 
 -- A call is taken only of the face that the file means.
 pub taken-face : (file levels arena scratch output : List ℕ) (t : Tree) → listCall file levels arena scratch output ≡ taken t → faceOf file ≡ taken t

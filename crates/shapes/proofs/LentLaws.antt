@@ -1,6 +1,6 @@
 -- Checks 14 to 18 as the code asks them: each way out has the number that the definition has there, and what is taken has passed them all.
 -- The levels that are left after i of them decide as all do where these i are in range.
-use mathlib.Core.Path.{_≡_, refl, sym, ap, subst, _∙_}
+use mathlib.Core.Path.{_≡_, refl, sym, ap, _∙_}
 use mathlib.Core.Bool.{Bool, true, false, _&&_, not}
 use mathlib.Core.List.{List, [], _∷_}
 use Prim.Native.Nat.{ℕ, zero, suc, _+_, _*_, _-_, _≤_, _<_}
@@ -10,9 +10,9 @@ use lib.Dec.{leb, eqb}
 use lib.ListN.{length, getD, drop, drop-of-length-le}
 use lib.Seq.{drop-cons}
 use borrow.Author.Tests.{leb-true, eqb-true, le-leb, lt-leb, eq-eqb, ne-eqb, not-true, not-false}
-use Rattle.checks.specs.Check.{LevelCount, LevelRange, Buffers, Output, numberOf}
-use Rattle.checks.specs.Answer.{Answer, taken, ask, number}
-use Rattle.checks.proofs.Answers.{ask-taken, number-taken}
+use Rattle.checks.specs.Check.{LevelCount, LevelRange, Buffers, Output}
+use Rattle.checks.specs.Answer.{taken, number}
+use Rattle.checks.proofs.Answers.{ask-taken}
 use Rattle.facefile.proofs.Took.{both-true}
 use Rattle.shapes.specs.Listing.{levelsInRange, lentChecks}
 

@@ -2,29 +2,23 @@
 -- The reader's answer is the definition's, and so is that of the checks of what was lent.
 use mathlib.Core.Path.{_≡_, refl, sym, ap, subst, _∙_}
 use mathlib.Core.List.{List}
-use Prim.Native.Nat.{ℕ, _+_, _*_, _-_, _≤_, _<_}
+use Prim.Native.Nat.{ℕ, _≤_}
 use native.Mathlib.Omega.{arith}
-use lib.ListN.{length, getD}
+use lib.ListN.{length}
 use Rattle.checks.specs.Check.{Check, numberOf}
 use Rattle.checks.specs.Answer.{Answer, refused, taken, next, number}
 use Rattle.checks.proofs.Answers.{number-taken, number-refused}
 use Rattle.slicing.specs.Tree.{Tree, gaugeCount, sizeCount}
-use Rattle.slicing.specs.Shapes.{shapes}
 use Rattle.facefile.specs.declared.Face.{Face}
 use Rattle.facefile.specs.Format.{faceOf}
 use Rattle.facefile.specs.Summary.{summary}
 use Rattle.facefile.proofs.Answered.{Counts, answer-taken, answer-refused}
 use Rattle.facefile.proofs.Taken.{face-taken}
-use Rattle.parts.specs.Building.{Buildable}
 use Rattle.shapes.specs.declared.Listed.{Listed}
-use Rattle.shapes.specs.Listing.{levelsInRange, lentChecks, listCall, listed, listOutput, ListArena, ListScratch}
+use Rattle.shapes.specs.Listing.{lentChecks, listCall}
 use Rattle.shapes.specs.Taken.{Writable, Wrote}
+use Rattle.shapes.specs.Demand2.{Promised}
 use Rattle.shapes.proofs.LentLaws.{Lent, lent-taken, level-in}
-
--- What the call promises of an answer: the fields, the output, the arena and the scratch.
-abbrev pub Promised : Answer Tree → Listed → (levels arena scratch output arena' scratch' output' : List ℕ) → Type 0
-Promised a r levels arena scratch output arena' scratch' output' =
-    (r ≡ listed a) × ((output' ≡ listOutput a output) × (ListArena a levels arena arena' × ListScratch a scratch scratch'))
 
 module _ (file levels arena scratch output : List ℕ) where
   abbrev answer : Answer Tree

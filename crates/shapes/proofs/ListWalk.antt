@@ -1,4 +1,4 @@
--- A walk along a list by the first link: what holds of the whole list and of the records left is kept record by record, and at the end no record is left.
+-- A walk along a list by the first link: what holds of the whole list and of the records left is kept record by record, and at the end no record is left; so the records are counted.
 -- The records left are a chain that begins with the next record, so that the walk meets them one by one and ends at 0.
 use mathlib.Core.Path.{_≡_, sym, subst, _∙_}
 use mathlib.Core.List.{List, [], _∷_}

@@ -1,10 +1,10 @@
 -- The list that was built for a face is the root's list, and its items are the face's outer sizes, or those turned where the root is stacked.
 -- A part runs by height unless its root is stacked, and a linked and ordered list is a lazy list.
 use mathlib.Core.Path.{_≡_, refl, sym, ap, subst, _∙_}
-use mathlib.Core.List.{List, [], _∷_, List·Memᴰ}
-use Prim.Native.Nat.{ℕ, _+_, _*_, _-_, _≤_, _<_}
+use mathlib.Core.List.{List, []}
+use Prim.Native.Nat.{ℕ, _+_, _*_, _-_, _≤_}
 use native.Mathlib.Omega.{arith}
-use lib.ListN.{length, getD, length-map}
+use lib.ListN.{length, length-map}
 use Rattle.checks.specs.Answer.{taken}
 use Rattle.checks.proofs.Answers.{same-taken}
 use Rattle.slicing.specs.Item.{Item}
@@ -17,14 +17,12 @@ use Rattle.slicing.proofs.RecordedLaws.{items-turn, items-shapes}
 use Rattle.slicing.proofs.PartLists.{part-gauge, part-beside, shapes-stacked, part-ordered, part-few, part-numbers}
 use Rattle.slicing.proofs.TurnLaws.{turn-length}
 use Rattle.facefile.specs.Format.{faceOf}
-use Rattle.facefile.proofs.Taken.{TakenFace, face-taken}
-use Rattle.arena.specs.Lazy.{held, lazyList}
-use Rattle.arena.specs.Chain.{All}
+use Rattle.facefile.proofs.Taken.{face-taken}
+use Rattle.arena.specs.Lazy.{held}
 use Rattle.arena.proofs.Frames.{all-map}
 use Rattle.maxplus.proofs.Holds.{holds-lazy}
-use Rattle.parts.specs.Part.{Part}
 use Rattle.facefile.specs.Kinds.{kindOf}
-use Rattle.parts.specs.Building.{Buildable, Whole}
+use Rattle.parts.specs.Building.{Whole}
 use Rattle.parts.proofs.PartLaws.{held-length, part-length}
 use Rattle.shapes.specs.Listing.{listWords, writtenOver, RootList}
 use Rattle.shapes.specs.Writing.{Listable}

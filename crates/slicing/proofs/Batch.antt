@@ -1,13 +1,12 @@
 -- Where items of one list have larger m than the first item of the other, the merge gives all of them with that item's p and the gap added, and then merges the rest.
 -- It takes them one by one, and the other list's first item stays until an item of its own m goes, or one of smaller m is first.
-use mathlib.Core.Path.{_≡_, refl, ap, ap₂, _∙_}
+use mathlib.Core.Path.{_≡_, refl, ap, _∙_}
 use mathlib.Core.Bool.{Bool, true, false, cond}
 use mathlib.Core.List.{List, [], _∷_, _++_, map, List·Memᴰ, List·Memᴰ·head, List·Memᴰ·tail}
-use Prim.Native.Nat.{ℕ, _+_, _≤_, _<_}
+use Prim.Native.Nat.{ℕ, _≤_, _<_}
 use native.Mathlib.Omega.{arith}
 use lib.Dec.{eqb}
 use borrow.Author.Tests.{eqb-true, eqb-false, lt-ltb, le-ltb, eq-eqb, ne-eqb}
-use Rattle.slicing.specs.Item.{size}
 use Rattle.slicing.specs.Good.{Ordered}
 use Rattle.slicing.specs.Merge.{sum}
 use Rattle.slicing.specs.Recorded.{Recorded, mergeRecorded, items}
@@ -25,10 +24,6 @@ raisedOlder gap b xs = map (againstNewer gap b) xs
 unfoldable pub raisedNewer : ℕ → Recorded → List Recorded → List Recorded
 raisedNewer gap a ys = map (againstOlder gap a) ys
 
--- Each p raised by v.
-unfoldable pub raised : ℕ → List Recorded → List Recorded
-raised v xs = map (λ (x : Recorded). record { number = x .number; item = size (x .item .m) (x .item .p + v) }) xs
-
 -- One step of the merge, for each of its three ways.
 module _ (gap : ℕ) (a b : Recorded) (l k : List Recorded) where
   step-older : b .item .m < a .item .m → mergeRecorded gap (a ∷ l) (b ∷ k) ≡ againstNewer gap b a ∷ mergeRecorded gap l (b ∷ k)
@@ -43,30 +38,6 @@ module _ (gap : ℕ) (a b : Recorded) (l k : List Recorded) where
   unfolding mergeRecorded
   step-newer h = rw (le-ltb (b .item .m) (a .item .m) (omega arith), mergeRecorded, ne-eqb (a .item .m) (b .item .m) (omega arith))
 
--- Older items, all of larger m than b.
-pub batch-older : (gap : ℕ) (b : Recorded) (xs l k : List Recorded) → ((x : Recorded) → List·Memᴰ x xs → b .item .m < x .item .m)
-    → mergeRecorded gap (xs ++ l) (b ∷ k) ≡ raisedOlder gap b xs ++ mergeRecorded gap l (b ∷ k)
-unfolding raisedOlder
-batch-older gap b [] l k h = refl
-batch-older gap b (x ∷ xs) l k h =
-    step-older gap x b (xs ++ l) k (h x (List·Memᴰ·head refl))
-    ∙ ap (λ (c : List Recorded). againstNewer gap b x ∷ c) (batch-older gap b xs l k (λ y i. h y (List·Memᴰ·tail i)))
-
--- One older item, of the same m as b: b goes with it.
-pub batch-both : (gap : ℕ) (x b : Recorded) (l k : List Recorded) → x .item .m ≡ b .item .m
-    → mergeRecorded gap (x ∷ l) (b ∷ k) ≡ raisedOlder gap b (x ∷ []) ++ mergeRecorded gap l k
-unfolding raisedOlder
-batch-both gap x b l k h = step-both gap x b l k h
-
--- Older items of larger m than b, and a last one of the same m.
-pub batch-older-both : (gap : ℕ) (x b : Recorded) (xs l k : List Recorded) → ((y : Recorded) → List·Memᴰ y xs → b .item .m < y .item .m) → x .item .m ≡ b .item .m
-    → mergeRecorded gap ((xs ++ (x ∷ [])) ++ l) (b ∷ k) ≡ raisedOlder gap b (xs ++ (x ∷ [])) ++ mergeRecorded gap l k
-unfolding raisedOlder
-batch-older-both gap x b [] l k h e = step-both gap x b l k e
-batch-older-both gap x b (y ∷ xs) l k h e =
-    step-older gap y b ((xs ++ (x ∷ [])) ++ l) k (h y (List·Memᴰ·head refl))
-    ∙ ap (λ (c : List Recorded). againstNewer gap b y ∷ c) (batch-older-both gap x b xs l k (λ z i. h z (List·Memᴰ·tail i)) e)
-
 -- Newer items, all of larger m than a.
 pub batch-newer : (gap : ℕ) (a : Recorded) (xs l k : List Recorded) → ((x : Recorded) → List·Memᴰ x xs → a .item .m < x .item .m)
     → mergeRecorded gap (a ∷ l) (xs ++ k) ≡ raisedNewer gap a xs ++ mergeRecorded gap (a ∷ l) k
@@ -75,19 +46,6 @@ batch-newer gap a [] l k h = refl
 batch-newer gap a (x ∷ xs) l k h =
     step-newer gap a x l (xs ++ k) (h x (List·Memᴰ·head refl))
     ∙ ap (λ (c : List Recorded). againstOlder gap a x ∷ c) (batch-newer gap a xs l k (λ y i. h y (List·Memᴰ·tail i)))
-
--- Both are one raise of the p.
-pub raised-older : (gap : ℕ) (b : Recorded) (xs : List Recorded) → raisedOlder gap b xs ≡ raised (gap + b .item .p) xs
-unfolding raisedOlder raised
-raised-older gap b [] = refl
-raised-older gap b (x ∷ xs) =
-    ap₂ (λ (p : ℕ) (c : List Recorded). record { number = x .number; item = size (x .item .m) p } ∷ c) (omega arith) (raised-older gap b xs)
-
-pub raised-newer : (gap : ℕ) (a : Recorded) (ys : List Recorded) → raisedNewer gap a ys ≡ raised (a .item .p + gap) ys
-unfolding raisedNewer raised
-raised-newer gap a [] = refl
-raised-newer gap a (y ∷ ys) =
-    ap₂ (λ (p : ℕ) (c : List Recorded). record { number = y .number; item = size (y .item .m) p } ∷ c) (omega arith) (raised-newer gap a ys)
 
 -- What is left of the newer list after older items of m at least b's: b too is gone where the last of them has its m.
 abbrev pub leftAfter : Recorded → List Recorded → List Recorded → List Recorded

@@ -1,9 +1,9 @@
 -- How many gauges and sizes a tree has: a join has those of its two parts together, and a good tree has 1 to 8 sizes a gauge.
 -- Both hold by going down the tree, since the gauges and sizes of a join are those of its parts one after the other.
 use mathlib.Core.Path.{_≡_}
-use Prim.Native.Nat.{ℕ, _+_, _*_, _≤_}
+use Prim.Native.Nat.{_+_, _*_, _≤_}
 use native.Mathlib.Omega.{arith}
-use lib.ListN.{length, length-append}
+use lib.ListN.{length-append}
 use Rattle.slicing.specs.Tree.{Tree, gauge, beside, stacked, gaugesOf, sizesOf, gaugeCount, sizeCount}
 use Rattle.slicing.specs.Good.{Good}
 

@@ -1,7 +1,6 @@
 -- No gauge of a tree has more joins above it than the tree has, and the tree has fewer joins than gauges.
 -- A join adds one to the deeper of its parts, and each part has at least one gauge more than joins.
-use mathlib.Core.Path.{_≡_}
-use Prim.Native.Nat.{ℕ, _≤_, _<_}
+use Prim.Native.Nat.{_≤_, _<_}
 use native.Mathlib.Omega.{arith}
 use Rattle.slicing.specs.Tree.{Tree, gauge, beside, stacked, gaugeCount, leastDepth, mostDepth}
 use Rattle.slicing.proofs.Counts.{gauges-joined}

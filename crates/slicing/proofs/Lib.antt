@@ -14,5 +14,4 @@ pub mod Placing
 pub mod Picking
 pub mod Demand3
 pub mod Stored
-pub mod Worked
 pub mod PartLists

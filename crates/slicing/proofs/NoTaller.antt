@@ -1,4 +1,4 @@
--- What a side of a join takes: the narrowest item of its list no taller than the part and, for stacked, the lowest item no wider.
+-- What a side of a join takes is the narrowest item of its list no taller than the part; for stacked, the lists are turned.
 -- Down an ordered list heights fall and widths rise, so the first item that is no taller is the narrowest such, and no item of the list is both no taller and no wider than another.
 use mathlib.Core.Path.{_≡_, refl, sym, ap, _∙_}
 use mathlib.Core.Bool.{Bool, true, false, cond}
@@ -10,9 +10,7 @@ use lib.Dec.{leb}
 use borrow.Author.Tests.{leb-true, leb-false}
 use Rattle.slicing.specs.Item.{Item}
 use Rattle.slicing.specs.Good.{Ordered}
-use Rattle.slicing.specs.Merge.{swap, turn}
-use Rattle.slicing.specs.Fit.{noTaller, noWider}
-use Rattle.slicing.proofs.TurnLaws.{turn-in, turn-out, turn-ordered}
+use Rattle.slicing.specs.Fit.{noTaller}
 
 same-m : {y z : Item} → y ≡ z → y .m ≡ z .m
 same-m e = ap (λ (i : Item). i .m) e
@@ -71,29 +69,3 @@ unfolding noTaller
 no-taller-narrowest h [] o y i k = absurd (List·Memᴰ·not-nil i)
 no-taller-narrowest h (x ∷ l) o y i k =
     narrowest-step h x l (noTaller h l) y o k (λ j. no-taller-narrowest h l (o .1) y j k) (List·Memᴰ·cases-cons i) (leb (x .m) h) refl
-
--- An item of just that height is the one taken.
-pub no-taller-exact : (h : ℕ) (l : List Item) → Ordered l → (y : Item) → List·Memᴰ y l → y .m ≡ h → noTaller h l ≡ y
-no-taller-exact h l o y i e =
-    let n = no-taller-narrowest h l o y i (omega arith) in
-    only-itself l o (noTaller h l) y (n .in-list) i (omega arith) (n .narrowest y i (omega arith))
-
--- z is the lowest item of the list no wider than w.
-pub record Lowest (w : ℕ) (l : List Item) (z : Item) : Type 0 where
-  pub in-list : List·Memᴰ z l
-  pub no-wider : z .p ≤ w
-  pub lowest : (y : Item) → List·Memᴰ y l → y .p ≤ w → z .m ≤ y .m
-
--- Where some item is no wider than w, the one taken is the lowest such.
-pub no-wider-lowest : (w : ℕ) (l : List Item) → Ordered l → (y : Item) → List·Memᴰ y l → y .p ≤ w → Lowest w l (noWider w l)
-no-wider-lowest w l o y i k =
-    let n = no-taller-narrowest w (turn l) (turn-ordered l o) (swap y) (turn-in y l i) k in
-    record {
-      in-list = turn-out (noTaller w (turn l)) l (n .in-list);
-      no-wider = n .no-taller;
-      lowest = λ v j q. n .narrowest (swap v) (turn-in v l j) q;
-    }
-
--- An item of just that width is the one taken.
-pub no-wider-exact : (w : ℕ) (l : List Item) → Ordered l → (y : Item) → List·Memᴰ y l → y .p ≡ w → noWider w l ≡ y
-no-wider-exact w l o y i e = ap swap (no-taller-exact w (turn l) (turn-ordered l o) (swap y) (turn-in y l i) e)

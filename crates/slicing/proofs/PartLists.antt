@@ -105,10 +105,6 @@ turned-low r t h x i =
     let low = recorded-low r t h (swapRecorded x) (turn-out-recorded x (shapesRecorded 0 r t) i) in
     (low .1, low .0)
 
-pub part-low : (r : ℕ) (t : Tree) → Good t → (x : Recorded) → List·Memᴰ x (partRecorded 0 r t) → (x .item .m ≤ 1_000 * gaugeCount t) × (x .item .p ≤ 1_000 * gaugeCount t)
-part-low r t h =
-    part-either (λ l. (x : Recorded) → List·Memᴰ x l → Low (gaugeCount t) (x .item)) 0 r t (recorded-low r t h) (turned-low r t h)
-
 -- How many they are.
 pub recorded-few : (gap r : ℕ) (t : Tree) → Good t → length (shapesRecorded gap r t) + gaugeCount t ≤ sizeCount t + 1
 recorded-few gap r t h =

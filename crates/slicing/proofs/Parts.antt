@@ -1,9 +1,8 @@
 -- A part of a face is a contiguous stretch of the face's gauges, and of its sizes, in file order.
 -- Going down the tree, each step leaves the other part's gauges before or after.
 use mathlib.Core.Path.{_≡_, refl, ap, _∙_, sym}
-use mathlib.Core.List.{List, [], _∷_, _++_, append-nil, append-assoc}
-use Rattle.slicing.specs.Item.{Item}
-use Rattle.slicing.specs.Tree.{Tree, gauge, beside, stacked, gaugesOf, sizesOf}
+use mathlib.Core.List.{List, [], _++_, append-nil, append-assoc}
+use Rattle.slicing.specs.Tree.{Tree, beside, stacked, gaugesOf, sizesOf}
 
 -- p is t, or a part of one of its parts.
 pub data Part (p : Tree) : Tree → Type 0 where

@@ -4,7 +4,7 @@ use mathlib.Core.Path.{_≡_, refl, subst}
 use mathlib.Core.Bool.{Bool, true, false, true≢false, false≢true, cond, _&&_, _||_}
 use mathlib.Core.List.{List, [], _∷_, List·Memᴰ, List·Memᴰ·head, List·Memᴰ·tail, List·Memᴰ·not-nil, List·Memᴰ·cases-cons}
 use mathlib.Core.Logic.{⊎-elim}
-use Prim.Native.Nat.{ℕ, _≤_}
+use Prim.Native.Nat.{_≤_}
 use native.Mathlib.Omega.{arith}
 use lib.Dec.{leb, ltb, eqb}
 use borrow.Author.Tests.{leb-true, leb-false, ltb-true, ltb-false, eqb-true, eqb-false}
@@ -110,9 +110,6 @@ pub pick-means : (o : Outline) (l : List Item) → PickMeans o l (smallest o l)
 unfolding smallest
 pick-means o [] = record { none = λ y i v. List·Memᴰ·not-nil i }
 pick-means o (z ∷ l) = pick-step o z l (smallest o l) (pick-means o l) (fits o z) refl
-
-pub picked-best : (o : Outline) (l : List Item) (z : Item) → smallest o l ≡ picked z → Best o l z
-picked-best o l z e = subst (λ (r : Pick). PickMeans o l r) e (pick-means o l)
 
 pub nothing-within : (o : Outline) (l : List Item) → smallest o l ≡ nothing → NoneWithin o l
 nothing-within o l e = subst (λ (r : Pick). PickMeans o l r) e (pick-means o l)

@@ -1,20 +1,21 @@
 -- The shape list of every part of a good tree: it is ordered, each item is the outer size of a choice, each choice is met, and it has at most n - g + 1 items.
 -- Each holds at a gauge by what its sizes are, and at a join by what the merge of the two parts' lists is; a stacked join is the same, turned.
-use mathlib.Core.Path.{_≡_, refl, sym, ap, _∙_}
-use mathlib.Core.List.{List, [], _∷_, List·Memᴰ}
-use Prim.Native.Nat.{ℕ, zero, suc, _+_, _≤_, max}
+use mathlib.Core.Path.{refl, sym, ap₂}
+use mathlib.Core.List.{List, List·Memᴰ}
+use Prim.Native.Nat.{ℕ, _+_, _≤_}
 use native.Mathlib.Omega.{arith}
 use lib.ListN.{length}
-use Rattle.slicing.specs.Item.{Item}
+use Rattle.slicing.specs.Item.{Item, size}
 use Rattle.slicing.specs.Tree.{Tree, gauge, beside, stacked, gaugeCount, sizeCount}
 use Rattle.slicing.specs.Good.{Ordered, Good}
 use Rattle.slicing.specs.Merge.{merge, swap, turn}
-use Rattle.slicing.specs.Maxplus.{FromPair, Meets, Maxplus}
+use Rattle.slicing.specs.Maxplus.{Meets}
 use Rattle.slicing.specs.Shapes.{shapes}
 use Rattle.slicing.specs.Choice.{Choice, extent}
-use Rattle.slicing.proofs.Counts.{gauges-joined, sizes-joined, counted}
+use Rattle.slicing.specs.Demand2.{Chosen}
+use Rattle.slicing.proofs.Counts.{gauges-joined, sizes-joined}
 use Rattle.slicing.proofs.MergeLaws.{maxplus, merge-filled, merge-short}
-use Rattle.slicing.proofs.TurnLaws.{turn-in, turn-out, turn-ordered, turn-length, turn-turn}
+use Rattle.slicing.proofs.TurnLaws.{turn-in, turn-out, turn-ordered, turn-length}
 
 pub shapes-ordered : (gap : ℕ) (t : Tree) → Good t → Ordered (shapes gap t)
 unfolding shapes
@@ -67,14 +68,6 @@ shapes-short gap (stacked a b) h =
       sizes-joined a b,
     )
 
--- A choice whose outer size is z.
-pub record Chosen (gap : ℕ) (t : Tree) (z : Item) : Type 0 where
-  pub choice : Choice t
-  pub same : extent gap t choice ≡ z
-
-item-is : (x y : Item) → x .m ≡ y .m → x .p ≡ y .p → x ≡ y
-item-is x y e f = ap (λ (n : ℕ). record { m = n; p = x .p }) e ∙ ap (λ (n : ℕ). record { m = y .m; p = n }) f
-
 pub shapes-chosen : (gap : ℕ) (t : Tree) (z : Item) → Good t → List·Memᴰ z (shapes gap t) → Chosen gap t z
 unfolding shapes
 shapes-chosen gap (gauge s) z h i = record { choice = (z, i); same = refl }
@@ -84,7 +77,7 @@ shapes-chosen gap (beside a b) z h i =
     let y = shapes-chosen gap b (pair .second) (h .1) (pair .second-in) in
     record {
       choice = (x .choice, y .choice);
-      same = rw (x .same, y .same) (item-is _ z (sym (pair .m-is)) (sym (pair .p-is)));
+      same = rw (x .same, y .same) (ap₂ size (sym (pair .m-is)) (sym (pair .p-is)));
     }
 shapes-chosen gap (stacked a b) z h i =
     let la = turn (shapes gap a) in
@@ -96,7 +89,7 @@ shapes-chosen gap (stacked a b) z h i =
     let y = shapes-chosen gap b (swap (pair .second)) (h .1) (turn-out (pair .second) (shapes gap b) (pair .second-in)) in
     record {
       choice = (x .choice, y .choice);
-      same = rw (x .same, y .same) (item-is _ z (sym (pair .p-is)) (sym (pair .m-is)));
+      same = rw (x .same, y .same) (ap₂ size (sym (pair .p-is)) (sym (pair .m-is)));
     }
 
 -- A list that meets less meets more.

@@ -1,14 +1,12 @@
 -- How many items the shape lists of all joins of a face hold together: at most 7 (g (g + 1) / 2 - 1) + (g - 1) for g gauges, 14,616 for 64.
 -- A join of g gauges holds at most 7 g + 1 items, and the sum is largest in a lopsided tree, since (l - 1) (r - 1) is not below 0.
-use mathlib.Core.Path.{_≡_}
 use Prim.Native.Nat.{ℕ, zero, suc, _+_, _*_, _≤_}
-use native.Mathlib.Nat.{mul-le-mul}
 use native.Mathlib.Omega.{arith}
 use lib.ListN.{length}
 use Rattle.slicing.specs.Tree.{Tree, gauge, beside, stacked, gaugeCount}
 use Rattle.slicing.specs.Good.{Good}
 use Rattle.slicing.specs.Shapes.{shapes}
-use Rattle.slicing.proofs.Counts.{Counted, counted, gauges-joined}
+use Rattle.slicing.proofs.Counts.{counted, gauges-joined}
 use Rattle.slicing.proofs.ShapeLaws.{shapes-short}
 
 -- The items of all joins of a part.
@@ -41,9 +39,3 @@ stored-few gap (stacked a b) h =
     (join-bound (gaugeCount a) (gaugeCount b) (storedItems gap a) (storedItems gap b) (length (shapes gap (stacked a b)))
     (counted a (h .0) .some) (counted b (h .1) .some) (stored-few gap a (h .0)) (stored-few gap b (h .1))
     (omega (arith, items-few gap (stacked a b) h, gauges-joined a b)))
-
--- For a face of at most 64 gauges.
-pub stored-fits : (gap : ℕ) (t : Tree) → Good t → gaugeCount t ≤ 64 → storedItems gap t ≤ 14_616
-stored-fits gap t h few =
-    let square : gaugeCount t * gaugeCount t ≤ 64 * 64 = mul-le-mul few few in
-    omega (arith, stored-few gap t h)

@@ -9,9 +9,6 @@ use Rattle.slicing.specs.Item.{Item, size}
 use Rattle.slicing.specs.Good.{Ordered}
 use Rattle.slicing.specs.Maxplus.{Meets}
 
-same-item : (a b : Item) → a .m ≡ b .m → a .p ≡ b .p → a ≡ b
-same-item a b e f = ap₂ size e f
-
 -- What it says of the first item of an ordered list that the list meets an item a: its p is no larger, and where it is no smaller either the first item itself meets a.
 first-met : (a b : Item) (k : List Item) → Ordered (b ∷ k) → Meets (b ∷ k) (a .m) (a .p) → (b .p ≤ a .p) × (a .p ≤ b .p → b .m ≤ a .m)
 first-met a b k o f = ⊎-elim first later (List·Memᴰ·cases-cons (f .item-in))
@@ -44,7 +41,9 @@ unique (a ∷ l) (b ∷ k) oa ob f g =
     let t = first-met b a l oa (g b (List·Memᴰ·head refl)) in
     let u = s .1 (t .0) in
     let v = t .1 (s .0) in
-    ap₂ _∷_ (same-item a b (omega arith) (omega arith))
+    let same-m : a .m ≡ b .m = omega arith in
+    let same-p : a .p ≡ b .p = omega arith in
+    ap₂ _∷_ (ap₂ size same-m same-p)
     (unique l k (oa .1) (ob .1)
     (λ z i. let h = oa .0 z i in rest-met b k (z .m) (z .p) (omega arith) (f z (List·Memᴰ·tail i)))
     (λ z i. let h = ob .0 z i in rest-met a l (z .m) (z .p) (omega arith) (g z (List·Memᴰ·tail i))))

@@ -1,5 +1,5 @@
 -- Demand 2: a choice of one size per gauge, and the outer size that it has.
-use mathlib.Core.List.{List, List·Memᴰ}
+use mathlib.Core.List.{List·Memᴰ}
 use Prim.Native.Nat.{ℕ, _+_, _≤_, max}
 use Rattle.slicing.specs.Item.{Item, size, height, width}
 use Rattle.slicing.specs.Tree.{Tree, gauge, beside, stacked}

@@ -1,13 +1,13 @@
 -- Document 01, "Fit": the face that is picked, its layout going down the tree, and the words that the layout is written as.
-use mathlib.Core.Bool.{Bool, true, false, cond, _&&_, _||_}
+use mathlib.Core.Bool.{Bool, cond, _&&_, _||_}
 use mathlib.Core.List.{List, [], _∷_, _++_}
-use Prim.Native.Nat.{ℕ, zero, suc, _+_, _*_}
+use Prim.Native.Nat.{ℕ, suc, _+_, _*_}
 use lib.Dec.{leb, ltb, eqb}
 use Rattle.slicing.specs.Item.{Item, size, height, width}
 use Rattle.slicing.specs.Tree.{Tree, gauge, beside, stacked}
 use Rattle.slicing.specs.Merge.{swap, turn}
 use Rattle.slicing.specs.Shapes.{shapes}
-use Rattle.slicing.specs.Layout.{Placed, Layout, sizeIn, Outline}
+use Rattle.slicing.specs.Layout.{Layout, sizeIn, Outline}
 
 -- The item that is picked, if there is one.
 pub data Pick : Type 0 where

@@ -1,6 +1,6 @@
 -- What document 01 lets a face's gauges be: the trees that a taken file can mean.
 use mathlib.Core.List.{List, [], _∷_, List·Memᴰ}
-use Prim.Native.Nat.{ℕ, _≤_, _<_}
+use Prim.Native.Nat.{_≤_, _<_}
 use lib.ListN.{length}
 use Rattle.slicing.specs.Item.{Item, height, width}
 use Rattle.slicing.specs.Tree.{Tree, gauge, beside, stacked}

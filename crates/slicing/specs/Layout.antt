@@ -58,6 +58,9 @@ pub record Outline : Type 0 where
   pub height : ℕ
   pub width : ℕ
 
+abbrev pub outline : ℕ → ℕ → Outline
+outline h w = record { height = h; width = w }
+
 -- "it is inside an opening that is no smaller either way"
 pub record Inside (o : Outline) (t : Tree) (l : Layout t) : Type 0 where
   pub low : topmost t l ≤ o .height

@@ -9,3 +9,4 @@ pub mod Layout
 pub mod Fit
 pub mod Maxplus
 pub mod FitMeans
+pub mod Demand2

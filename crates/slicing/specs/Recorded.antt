@@ -1,7 +1,7 @@
 -- Document 01, "Lazy lists": the same lists, with each item's record. "A merged item keeps the record and level of the item whose m it has; where both have it, the older part's."
 use mathlib.Core.Bool.{true, false}
 use mathlib.Core.List.{List, [], _∷_, map, reverse}
-use Prim.Native.Nat.{ℕ, zero, suc, _+_}
+use Prim.Native.Nat.{ℕ, suc, _+_}
 use lib.Dec.{ltb, eqb}
 use Rattle.slicing.specs.Item.{Item}
 use Rattle.slicing.specs.Tree.{Tree, gauge, beside, stacked, sizeCount}

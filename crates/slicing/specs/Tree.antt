@@ -1,6 +1,6 @@
 -- The slicing tree that a face file means, and what document 01 counts in it.
 use mathlib.Core.List.{List, [], _∷_, _++_}
-use Prim.Native.Nat.{ℕ, zero, suc, _+_, min, max}
+use Prim.Native.Nat.{ℕ, suc, min, max}
 use lib.ListN.{length}
 use Rattle.slicing.specs.Item.{Item}
 

@@ -1,31 +1,26 @@
 -- The four words of a part in the table: what a store of them leaves, and that every word before them and after the table stays.
 -- A store at one place leaves every other place.
-use mathlib.Core.Path.{_≡_, refl, sym, ap, subst, _∙_}
+use mathlib.Core.Path.{_≡_, refl, sym, subst, _∙_}
 use mathlib.Core.List.{List}
 use Prim.Native.Nat.{ℕ, _+_, _*_, _≤_, _<_}
 use native.Mathlib.Omega.{arith}
 use lib.ListN.{length, getD, set, length-set}
-use lib.Seq.{getD-set-same, getD-set-other}
+use lib.Seq.{lt-length-set, getD-set-same, getD-set-other}
 use Rattle.slicing.specs.Item.{Item}
 use Rattle.stored.specs.Packed.{HasList}
-use Rattle.stored.specs.Store.{Entry}
 use Rattle.stored.specs.Filling.{entryAt, Added}
-use Rattle.stored.proofs.StoredLists.{has-kept}
-
-set-room : (s : List ℕ) (i v j : ℕ) → j < length s → j < length (set s i v)
-set-room s i v j less = subst (λ (n : ℕ). j < n) (sym (length-set s i v)) less
 
 -- Each of the four words is inside.
 pub room-second : (s : List ℕ) (e v : ℕ) → 4 * e + 4 ≤ length s → 4 * e + 1 < length (set s (4 * e) v)
-room-second s e v long = set-room s (4 * e) v (4 * e + 1) (omega arith)
+room-second s e v long = lt-length-set s (4 * e) v (omega arith)
 
 pub room-third : (s : List ℕ) (e v w : ℕ) → 4 * e + 4 ≤ length s → 4 * e + 2 < length (set (set s (4 * e) v) (4 * e + 1) w)
-room-third s e v w long = set-room (set s (4 * e) v) (4 * e + 1) w (4 * e + 2) (set-room s (4 * e) v (4 * e + 2) (omega arith))
+room-third s e v w long = lt-length-set (set s (4 * e) v) (4 * e + 1) w (lt-length-set s (4 * e) v (omega arith))
 
 pub room-fourth : (s : List ℕ) (e v w x : ℕ) → 4 * e + 4 ≤ length s → 4 * e + 3 < length (set (set (set s (4 * e) v) (4 * e + 1) w) (4 * e + 2) x)
 room-fourth s e v w x long =
-    set-room (set (set s (4 * e) v) (4 * e + 1) w) (4 * e + 2) x (4 * e + 3)
-    (set-room (set s (4 * e) v) (4 * e + 1) w (4 * e + 3) (set-room s (4 * e) v (4 * e + 3) (omega arith)))
+    lt-length-set (set (set s (4 * e) v) (4 * e + 1) w) (4 * e + 2) x
+    (lt-length-set (set s (4 * e) v) (4 * e + 1) w (lt-length-set s (4 * e) v (omega arith)))
 
 pub entry-is : (s : List ℕ) (e from count kind gauges : ℕ) → set (set (set (set s (4 * e) from) (4 * e + 1) count) (4 * e + 2) kind) (4 * e + 3) gauges ≡ entryAt s e from count kind gauges
 unfolding entryAt

@@ -1,23 +1,21 @@
 -- What the loop over the entries keeps: the parts of the stack are the last parts of the table, and their lists follow it.
 -- A gauge and a join each add one part after those that are there.
-use mathlib.Core.Path.{_≡_, refl, sym, ap, ap₂, subst, _∙_}
-use mathlib.Core.List.{List, [], _∷_, _++_}
-use Prim.Native.Nat.{ℕ, zero, suc, _+_, _*_, _-_, _≤_, _<_}
+use mathlib.Core.Path.{_≡_, refl, sym, ap, subst, _∙_}
+use mathlib.Core.List.{List, [], _∷_}
+use Prim.Native.Nat.{ℕ, _+_, _*_, _-_, _≤_, _<_}
 use native.Mathlib.Omega.{arith}
 use lib.ListN.{length, getD, take, drop, length-append, length-drop}
 use lib.Seq.{getD-take, length-take-le}
 use Rattle.checks.specs.Answer.{taken}
 use Rattle.checks.proofs.Answers.{same-taken}
 use Rattle.slicing.specs.Item.{Item}
-use Rattle.slicing.specs.Tree.{Tree, gauge, beside, stacked, gaugesOf, sizesOf, gaugeCount, sizeCount}
+use Rattle.slicing.specs.Tree.{Tree, gauge, beside, stacked, gaugesOf, gaugeCount, sizeCount}
 use Rattle.slicing.specs.Good.{Good}
 use Rattle.slicing.specs.Shapes.{shapes}
-use Rattle.slicing.proofs.Counts.{counted, gauges-joined, sizes-joined}
+use Rattle.slicing.proofs.Counts.{gauges-joined, sizes-joined}
 use Rattle.slicing.proofs.Depths.{depth-few}
-use Rattle.slicing.proofs.ShapeLaws.{shapes-short}
 use Rattle.slicing.proofs.Stored.{storedItems}
 use Rattle.facefile.specs.Format.{State, start, faceOf}
-use Rattle.facefile.specs.Kinds.{kindOf}
 use Rattle.facefile.specs.Tracking.{flat}
 use Rattle.facefile.specs.Sizes.{sizesIn}
 use Rattle.facefile.proofs.SizesIn.{from-in, in-same, in-length}
@@ -28,7 +26,7 @@ use Rattle.stored.specs.Packed.{ownShapes}
 use Rattle.stored.specs.Store.{Entry, Stored}
 use Rattle.stored.specs.Filling.{Between, Lies, Added, Rows, Fillable, Filled}
 use Rattle.stored.specs.Adding.{Room, JoinRoom}
-use Rattle.stored.proofs.OwnLists.{entry-of, own-length, cut-kind}
+use Rattle.stored.proofs.OwnLists.{entry-of, own-length, own-few, cut-gauges, cut-short}
 use Rattle.stored.proofs.StoredRows.{stored-frame, lies-frame, rows-frame, rows-total, used, used-few}
 
 pub record Filling (file s₀ s : List ℕ) (at part to : ℕ) : Type 0 where
@@ -54,28 +52,12 @@ own-gauge : (z : List Item) → ownShapes (gauge z) ≡ z
 unfolding ownShapes shapes
 own-gauge z = refl
 
--- The items of a part are few.
-own-few : (t : Tree) → Good t → length (ownShapes t) ≤ 7 * gaugeCount t + 1
-own-few t good =
-    let n = own-length t in
-    let short = shapes-short 0 t good in
-    let most = counted t good .most in
-    omega arith
-
 lies-between : (s : List ℕ) (to x : ℕ) (t : Tree) → Lies s to x t → Between s to x t
 lies-between s to x (gauge z) l = l
 lies-between s to x (beside a b) l = l .0
 lies-between s to x (stacked a b) l = l .0
 
 -- The same of both joins.
-cut-good : (kind : ℕ) (cut : Tree → Tree → Tree) → Cut kind cut → (a b : Tree) → Good a → Good b → Good (cut a b)
-cut-good kind cut cut-beside a b x y = (x, y)
-cut-good kind cut cut-stacked a b x y = (x, y)
-
-cut-gauges : (kind : ℕ) (cut : Tree → Tree → Tree) → Cut kind cut → (a b : Tree) → gaugeCount (cut a b) ≡ gaugeCount a + gaugeCount b
-cut-gauges kind cut cut-beside a b = gauges-joined a b
-cut-gauges kind cut cut-stacked a b = gauges-joined a b
-
 cut-used : (kind : ℕ) (cut : Tree → Tree → Tree) → Cut kind cut → (a b : Tree) → sizeCount (cut a b) + storedItems 0 (cut a b) ≡ sizeCount a + storedItems 0 a + (sizeCount b + storedItems 0 b) + length (ownShapes (cut a b))
 cut-used kind cut cut-beside a b = let n = sizes-joined a b in let m = own-length (beside a b) in omega arith
 cut-used kind cut cut-stacked a b = let n = sizes-joined a b in let m = own-length (stacked a b) in omega arith
@@ -273,9 +255,7 @@ module _ (file s₀ s : List ℕ) (at part to : ℕ) (k : Filling file s₀ s at
           join-fits =
               let p = place-few in
               let m = item-count in
-              let short = own-few (joining .cut older newer) (cut-good kind (joining .cut) cut older newer (good .1) (good .0)) in
-              let g = cut-gauges kind (joining .cut) cut older newer in
-              let few = gauges-few in
+              let short = cut-short kind (joining .cut) cut older newer (good .1) (good .0) gauges-few in
               (omega arith, omega arith)
 
           new-stored : Stored z part (joining .cut older newer)

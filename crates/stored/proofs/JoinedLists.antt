@@ -2,45 +2,22 @@
 -- The two parts stand before it, and the merge is written after all lists.
 use mathlib.Core.Path.{_≡_, refl, sym, ap, ap₂, subst, _∙_}
 use mathlib.Core.Bool.{Bool}
-use mathlib.Core.List.{List, List·Memᴰ}
+use mathlib.Core.List.{List}
 use Prim.Native.Nat.{ℕ, _+_, _*_, _-_, _≤_, _<_}
 use native.Mathlib.Omega.{arith}
 use lib.ListN.{length, getD}
 use Rattle.slicing.specs.Item.{Item}
-use Rattle.slicing.specs.Tree.{Tree, beside, stacked, gaugeCount}
-use Rattle.slicing.specs.Good.{Good}
-use Rattle.slicing.proofs.Counts.{counted, gauges-joined}
-use Rattle.slicing.proofs.ShapeLaws.{shapes-short}
-use Rattle.facefile.proofs.Took.{Cut, cut-beside, cut-stacked}
+use Rattle.slicing.specs.Tree.{Tree, gaugeCount}
 use Rattle.facefile.specs.Kinds.{kindOf, across}
-use Rattle.stored.specs.Packed.{facing, ownShapes, HasList}
+use Rattle.stored.specs.Packed.{ownShapes, HasList}
 use Rattle.stored.specs.Store.{Entry}
-use Rattle.stored.specs.Joining.{readAs, mergeOf, Joinable, Joined}
+use Rattle.stored.specs.Joining.{mergeOf, Joinable, Joined}
 use Rattle.stored.specs.Filling.{entryAt, stretchOf, Added}
-use Rattle.stored.specs.Adding.{Room, JoinRoom}
+use Rattle.stored.specs.Adding.{JoinRoom}
 use Rattle.stored.specs.declared.merge.Stretch.{Stretch}
 use Rattle.stored.proofs.Merging.{sums-low}
 use Rattle.stored.proofs.EntryLaws.{entry-added}
-use Rattle.stored.proofs.OwnLists.{own-length, own-merge, own-low, kind-low}
-
--- A join has few items.
-cut-short : (kind : ℕ) (cut : Tree → Tree → Tree) → Cut kind cut → (a b : Tree) → Good a → Good b → gaugeCount a + gaugeCount b ≤ 64 → length (ownShapes (cut a b)) ≤ 512
-cut-short kind cut cut-beside a b x y few =
-    let n = own-length (beside a b) in
-    let short = shapes-short 0 (beside a b) (x, y) in
-    let c = counted (beside a b) (x, y) in
-    let most = c .most in
-    let some = c .some in
-    let g = gauges-joined a b in
-    omega arith
-cut-short kind cut cut-stacked a b x y few =
-    let n = own-length (stacked a b) in
-    let short = shapes-short 0 (stacked a b) (x, y) in
-    let c = counted (stacked a b) (x, y) in
-    let most = c .most in
-    let some = c .some in
-    let g = gauges-joined a b in
-    omega arith
+use Rattle.stored.proofs.OwnLists.{own-merge, own-low, kind-low, cut-short}
 
 abbrev pub Joins : List ℕ → ℕ → ℕ → ℕ → Type 0
 Joins s e to kind = (cut : Tree → Tree → Tree) × (a : Tree) × (b : Tree) × JoinRoom s e to kind cut a b

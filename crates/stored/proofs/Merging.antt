@@ -11,10 +11,11 @@ use lib.ListN.{length, getD, set, drop, length-set, length-append, drop-of-lengt
 use lib.Seq.{drop-cons, drop-drop, getD-set-other}
 use Rattle.slicing.specs.Item.{Item, size}
 use Rattle.slicing.specs.Merge.{merge}
-use Rattle.stored.specs.Packed.{pack, facing, HasList}
+use Rattle.stored.specs.Packed.{pack, HasList}
 use Rattle.stored.specs.Joining.{readAs, mergeOf, Joinable, Joined}
 use Rattle.stored.specs.declared.merge.Stretch.{Stretch}
-use Rattle.stored.proofs.StoredLists.{Low, facing-length, facing-low, m-of-pack, p-of-pack, place-in, has-one, has-kept, has-grown}
+use Rattle.stored.proofs.Reading.{ItemWord}
+use Rattle.stored.proofs.StoredLists.{Low, facing-length, facing-low, m-is, p-is, place-in, has-one, has-kept, has-grown}
 use Rattle.stored.proofs.MergeTurns.{merge-nil, merge-turn}
 
 -- For a caller: the sums of the p fit where no item of either list has a larger p than a bound.
@@ -59,7 +60,7 @@ merging-start s a b to pre =
 
 -- What a place of either list is read as.
 abbrev pub Reads : List ℕ → Stretch → ℕ → ℕ → Type 0
-Reads z a i x = (l : List Item) → HasList z (a .from) l → a .count ≡ length l → x ≡ pack (getD (facing (a .across) l) i (size 0 0))
+Reads z a i x = ItemWord z (a .from) (a .count) (a .across) i x
 
 module _ (s : List ℕ) (a b : Stretch) (to : ℕ) (z : List ℕ) (i j at : ℕ) (h : Merging s a b to z i j at) where
   older-kept : HasList z (a .from) (h .older)
@@ -176,10 +177,10 @@ firsts s a b to z i j at h i-left j-left x y x-read y-read =
       second-is = refl;
       i-inside = omega (arith, facing-length (a .across) l);
       j-inside = omega (arith, facing-length (b .across) k);
-      x-m = rw x-is (m-of-pack _ l-low);
-      x-p = rw x-is (p-of-pack _ l-low);
-      y-m = rw y-is (m-of-pack _ k-low);
-      y-p = rw y-is (p-of-pack _ k-low);
+      x-m = m-is _ x _ l-low x-is refl;
+      x-p = p-is _ x _ l-low x-is refl;
+      y-m = m-is _ y _ k-low y-is refl;
+      y-p = p-is _ y _ k-low y-is refl;
       first-low = l-low;
       second-low = k-low;
       sum-low = h .joinable .low i j (omega arith) (omega arith);

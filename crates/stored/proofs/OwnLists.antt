@@ -1,6 +1,6 @@
--- A part's stored list, read the way of a join, is the shape list or that turned; and the merge of two lists so read is the join's own.
--- Stacked parts are stored by width and others by height, which is how the list of each is defined.
-use mathlib.Core.Path.{_≡_, refl, sym, ap, ap₂, subst, _∙_}
+-- A part's stored list, read the way of a join, is the shape list or that turned; the merge of two lists so read is the join's own, and it is short.
+-- Stacked parts are stored by width and others by height, which is how the list of each is defined; turning keeps the number of items.
+use mathlib.Core.Path.{_≡_, refl, sym, ap₂, subst, _∙_}
 use mathlib.Core.List.{List, List·Memᴰ}
 use Prim.Native.Nat.{ℕ, _+_, _*_, _≤_, _<_}
 use native.Mathlib.Omega.{arith}
@@ -10,6 +10,8 @@ use Rattle.slicing.specs.Tree.{Tree, gauge, beside, stacked, gaugeCount}
 use Rattle.slicing.specs.Good.{Good}
 use Rattle.slicing.specs.Merge.{merge, swap, turn}
 use Rattle.slicing.specs.Shapes.{shapes}
+use Rattle.slicing.proofs.Counts.{counted, gauges-joined}
+use Rattle.slicing.proofs.ShapeLaws.{shapes-short}
 use Rattle.slicing.proofs.TurnLaws.{turn-turn, turn-length, turn-out}
 use Rattle.slicing.proofs.PartLists.{shapes-low}
 use Rattle.facefile.specs.Kinds.{kindOf, across}
@@ -28,13 +30,13 @@ own-length (gauge s) = refl
 own-length (beside a b) = refl
 own-length (stacked a b) = turn-length (shapes 0 (stacked a b))
 
-own-beside : (t : Tree) → facing (across (kindOf t) 0x02) (ownShapes t) ≡ shapes 0 t
+pub own-beside : (t : Tree) → facing (across (kindOf t) 0x02) (ownShapes t) ≡ shapes 0 t
 unfolding across ownShapes
 own-beside (gauge s) = refl
 own-beside (beside a b) = refl
 own-beside (stacked a b) = turn-turn (shapes 0 (stacked a b))
 
-own-stacked : (t : Tree) → facing (across (kindOf t) 0x03) (ownShapes t) ≡ turn (shapes 0 t)
+pub own-stacked : (t : Tree) → facing (across (kindOf t) 0x03) (ownShapes t) ≡ turn (shapes 0 t)
 unfolding across ownShapes
 own-stacked (gauge s) = refl
 own-stacked (beside a b) = refl
@@ -57,6 +59,19 @@ kind-low (gauge s) = omega arith
 kind-low (beside a b) = omega arith
 kind-low (stacked a b) = omega arith
 
-pub cut-kind : (kind : ℕ) (cut : Tree → Tree → Tree) → Cut kind cut → (a b : Tree) → kind ≡ kindOf (cut a b)
-cut-kind kind cut cut-beside a b = refl
-cut-kind kind cut cut-stacked a b = refl
+-- The items of a part are few.
+pub own-few : (t : Tree) → Good t → length (ownShapes t) ≤ 7 * gaugeCount t + 1
+own-few t good =
+    let n = own-length t in
+    let short = shapes-short 0 t good in
+    let most = counted t good .most in
+    omega arith
+
+-- The same of both joins.
+pub cut-gauges : (kind : ℕ) (cut : Tree → Tree → Tree) → Cut kind cut → (a b : Tree) → gaugeCount (cut a b) ≡ gaugeCount a + gaugeCount b
+cut-gauges kind cut cut-beside a b = gauges-joined a b
+cut-gauges kind cut cut-stacked a b = gauges-joined a b
+
+pub cut-short : (kind : ℕ) (cut : Tree → Tree → Tree) → Cut kind cut → (a b : Tree) → Good a → Good b → gaugeCount a + gaugeCount b ≤ 64 → length (ownShapes (cut a b)) ≤ 512
+cut-short kind cut cut-beside a b x y few = let short = own-few (beside a b) (x, y) in let g = gauges-joined a b in omega arith
+cut-short kind cut cut-stacked a b x y few = let short = own-few (stacked a b) (x, y) in let g = gauges-joined a b in omega arith

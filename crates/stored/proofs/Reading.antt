@@ -46,14 +46,16 @@ halves-swapped : (z : Item) → z .m < 65_536 → z .p < 65_536 → 65_536 * (pa
 unfolding pack
 halves-swapped z h k = omega arith
 
--- What is read of the list as it runs, and of the list turned.
-pub read-along : (s : List ℕ) (from count : ℕ) (across : Bool) (k r : ℕ) → k < count → across ≡ false → r ≡ getD s (from + k) 0
-    → (l : List Item) → HasList s from l → count ≡ length l → r ≡ pack (getD (facing across l) k (size 0 0))
+-- What is read for item k of a stored list of `count` items, of the list turned where `across` is true: the item's word.
+abbrev pub ItemWord : List ℕ → ℕ → ℕ → Bool → ℕ → ℕ → Type 0
+ItemWord s from count across k r = (l : List Item) → HasList s from l → count ≡ length l → r ≡ pack (getD (facing across l) k (size 0 0))
+
+-- It is read of the list as it runs, or of the list turned.
+pub read-along : (s : List ℕ) (from count : ℕ) (across : Bool) (k r : ℕ) → k < count → across ≡ false → r ≡ getD s (from + k) 0 → ItemWord s from count across k r
 read-along s from count across k r h e f l has same =
     f ∙ has .at k (omega arith) ∙ rw e
 
-pub read-across : (s : List ℕ) (from count : ℕ) (across : Bool) (k w r : ℕ) → k < count → across ≡ true → w ≡ getD s (from + (count - 1 - k)) 0 → r ≡ 65_536 * (w % 65_536) + w / 65_536
-    → (l : List Item) → HasList s from l → count ≡ length l → r ≡ pack (getD (facing across l) k (size 0 0))
+pub read-across : (s : List ℕ) (from count : ℕ) (across : Bool) (k w r : ℕ) → k < count → across ≡ true → w ≡ getD s (from + (count - 1 - k)) 0 → r ≡ 65_536 * (w % 65_536) + w / 65_536 → ItemWord s from count across k r
 read-across s from count across k w r h e f g l has same =
     let place : count - 1 - k < length l = omega arith in
     let low = has .low (count - 1 - k) place in

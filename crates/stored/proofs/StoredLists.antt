@@ -1,9 +1,8 @@
--- A stored list is the only one of its length at its place; it stays where its words stay, and a word written after its last is one item more.
--- Two items below 65,536 both ways that are one word are the same, and everything else goes item by item.
-use mathlib.Core.Path.{_≡_, refl, sym, ap, _∙_}
+-- A stored list, read either way, has as many items, and each is what the halves of its word say; it is the only list of its length at its place, stays where its words stay, and has one item more by a word written after its last.
+-- Items below 65,536 both ways are got back from their words, and everything else goes item by item.
+use mathlib.Core.Path.{_≡_, refl, sym, ap, ap₂, _∙_}
 use mathlib.Core.Bool.{Bool, true, false}
-use mathlib.Core.List.{List, [], _∷_, _++_, List·Memᴰ, List·Memᴰ·head, List·Memᴰ·tail, List·Memᴰ·not-nil, List·Memᴰ·cases-cons}
-use mathlib.Core.Logic.{⊎-elim}
+use mathlib.Core.List.{List, [], _∷_, _++_, List·Memᴰ, List·Memᴰ·head, List·Memᴰ·tail}
 use Prim.Native.Nat.{ℕ, zero, suc, _+_, _-_, _/_, _%_, _≤_, _<_}
 use native.Mathlib.Omega.{arith}
 use lib.Dec.{ltb}
@@ -28,40 +27,25 @@ facing-low true s from l has i h =
     let low = has .low (length l - 1 - i) (omega arith) in rw (turn-at l i h) (low .1, low .0)
 facing-low false s from l has i h = has .low i h
 
--- What is at a place is in the list, and what is in the list is at a place.
+-- What is at a place is in the list.
 pub place-in : (l : List Item) (i : ℕ) → i < length l → List·Memᴰ (getD l i (size 0 0)) l
 place-in [] i h = absurd (omega arith)
 place-in (x ∷ l) zero h = List·Memᴰ·head refl
 place-in (x ∷ l) (suc i) h = List·Memᴰ·tail (place-in l i (omega arith))
 
-pub record At (y : Item) (l : List Item) : Type 0 where
-  pub place : ℕ
-  pub inside : place < length l
-  pub same : getD l place (size 0 0) ≡ y
-
-pub in-at : (y : Item) (l : List Item) → List·Memᴰ y l → At y l
-in-at y [] h = absurd (List·Memᴰ·not-nil h)
-in-at y (x ∷ l) h =
-    ⊎-elim (λ (e : y ≡ x). record { place = 0; inside = omega arith; same = sym e })
-    (λ (i : List·Memᴰ y l). let a = in-at y l i in record { place = suc (a .place); inside = let h = a .inside in omega arith; same = a .same })
-    (List·Memᴰ·cases-cons h)
-
 -- The halves of an item's word are the item.
-pub m-of-pack : (z : Item) → Low z → pack z / 65_536 ≡ z .m
+pub m-is : (z : Item) (w h : ℕ) → Low z → w ≡ pack z → h ≡ w / 65_536 → h ≡ z .m
 unfolding pack
-m-of-pack z h = omega arith
+m-is z w h low e f = omega arith
 
-pub p-of-pack : (z : Item) → Low z → pack z % 65_536 ≡ z .p
+pub p-is : (z : Item) (w h : ℕ) → Low z → w ≡ pack z → h ≡ w % 65_536 → h ≡ z .p
 unfolding pack
-p-of-pack z h = omega arith
-
-item-is : (x y : Item) → x .m ≡ y .m → x .p ≡ y .p → x ≡ y
-item-is x y e f = ap (λ (n : ℕ). record { m = n; p = x .p }) e ∙ ap (λ (n : ℕ). record { m = y .m; p = n }) f
+p-is z w h low e f = omega arith
 
 pack-one : (y z : Item) → Low y → Low z → pack y ≡ pack z → y ≡ z
 pack-one y z h k e =
-    item-is y z (sym (m-of-pack y h) ∙ ap (λ (n : ℕ). n / 65_536) e ∙ m-of-pack z k)
-    (sym (p-of-pack y h) ∙ ap (λ (n : ℕ). n % 65_536) e ∙ p-of-pack z k)
+    ap₂ size (sym (m-is y (pack z) (pack z / 65_536) h (sym e) refl) ∙ m-is z (pack z) (pack z / 65_536) k refl refl)
+    (sym (p-is y (pack z) (pack z % 65_536) h (sym e) refl) ∙ p-is z (pack z) (pack z % 65_536) k refl refl)
 
 -- A place has one list of a length.
 pub has-one : (s : List ℕ) (from : ℕ) (l k : List Item) → HasList s from l → HasList s from k → length l ≡ length k → l ≡ k

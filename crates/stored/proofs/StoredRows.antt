@@ -1,14 +1,13 @@
 -- The stored parts stand as long as the words of the table before a part, and the lists before a place, do; and how many words they take.
 -- Each part's words are before the next part's, and each list ends before the next one starts.
-use mathlib.Core.Path.{_≡_, refl, sym, ap, subst, _∙_}
+use mathlib.Core.Path.{_≡_, sym, subst, _∙_}
 use mathlib.Core.List.{List, [], _∷_}
-use Prim.Native.Nat.{ℕ, suc, _+_, _*_, _-_, _≤_, _<_}
+use Prim.Native.Nat.{ℕ, _+_, _*_, _-_, _≤_, _<_}
 use native.Mathlib.Nat.{mul-le-mul}
 use native.Mathlib.Omega.{arith}
 use lib.ListN.{length, getD, length-append}
-use Rattle.slicing.specs.Item.{Item, size}
+use Rattle.slicing.specs.Item.{Item}
 use Rattle.slicing.specs.Tree.{Tree, gauge, beside, stacked, gaugesOf, gaugeCount, sizeCount}
-use Rattle.slicing.specs.Good.{Good}
 use Rattle.slicing.proofs.Depths.{depth-few}
 use Rattle.slicing.proofs.Counts.{counted}
 use Rattle.slicing.proofs.Stored.{storedItems, stored-few}

@@ -1,8 +1,7 @@
 -- What adding a gauge or a join to the stored parts asks. No public contract cites it.
-use mathlib.Core.Path.{_≡_}
 use mathlib.Core.List.{List}
 use Prim.Native.Nat.{ℕ, _+_, _*_, _-_, _≤_, _<_}
-use lib.ListN.{length, getD}
+use lib.ListN.{length}
 use Rattle.slicing.specs.Tree.{Tree, gaugeCount}
 use Rattle.slicing.specs.Good.{Good}
 use Rattle.facefile.specs.Kinds.{kindOf}

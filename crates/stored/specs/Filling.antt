@@ -7,7 +7,7 @@ use Rattle.checks.specs.Answer.{taken}
 use Rattle.slicing.specs.Item.{Item}
 use Rattle.slicing.specs.Tree.{Tree, gauge, beside, stacked, gaugeCount}
 use Rattle.facefile.specs.Format.{faceOf}
-use Rattle.facefile.specs.Kinds.{kindOf, across}
+use Rattle.facefile.specs.Kinds.{across}
 use Rattle.stored.specs.Packed.{ownShapes}
 use Rattle.stored.specs.Store.{Entry, Stored}
 use Rattle.stored.specs.declared.merge.Stretch.{Stretch}

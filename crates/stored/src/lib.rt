@@ -1,5 +1,5 @@
 // The shape lists of every part of a face, in a lent scratch: one word an item.
 pub mod fill;
 pub mod item;
-pub mod merge;
+mod merge;
 pub mod table;

@@ -4,88 +4,62 @@ use borrow.Author.Needs.{needs}
 use Rattle.fit.proofs.FaceLaws.{face-fills, root-inside, root-list, face-none, face-reads, face-lays, face-counts, face-done}
 use Rattle.fit.proofs.fitting.place_face.Statement.{statement}
 use Rattle.fit.proofs.fitting.place_face.Tie as tie
-use Rattle.fit.proofs.fitting.place_face.Reads as reads
-use Rattle.fit.proofs.fitting.place_face.Lts as lts
-use Rattle.fit.proofs.fitting.found.Reads as found-reads
-use Rattle.fit.proofs.fitting.refused.Reads as refused-reads
-use Rattle.fit.proofs.lay.lay.Reads as lay-reads
-use Rattle.fit.proofs.pick.pick.Reads as pick-reads
-use Rattle.fit.proofs.take.is_against.Reads as is-against-reads
-use Rattle.stored.proofs.fill.store_lists.Reads as store-lists-reads
-use Rattle.stored.proofs.item.read_item.Reads as read-item-reads
-use Rattle.stored.proofs.table.part_word.Reads as part-word-reads
 
--- src/fitting.rt:112:9
 store-lists-requires : tie.Need-store-lists-requires
 store-lists-requires c κs =
     face-fills _ _ _ _ (c .before .before .before .before .pre)
 
--- src/fitting.rt:113:9
 part-word-requires : tie.Need-part-word-requires
 part-word-requires c κs =
     (root-inside _ _ _ _ _ (c .before .before .before .before .before .before .before .before .args .gauges) (c .before .before .before .before .before .before .before .before .args .height) (c .before .before .before .before .before .before .before .before .args .width) (c .before .before .before .store-lists .ensures) (c .before .before .before .before .before .before .before .before .pre), search needs)
 
--- src/fitting.rt:114:9
 part-word-requires-2 : tie.Need-part-word-requires-2
 part-word-requires-2 c κs =
     (root-inside _ _ _ _ _ (c .before .before .before .before .before .before .before .before .before .before .args .gauges) (c .before .before .before .before .before .before .before .before .before .before .args .height) (c .before .before .before .before .before .before .before .before .before .before .args .width) (c .before .before .before .before .before .store-lists .ensures) (c .before .before .before .before .before .before .before .before .before .before .pre), search needs)
 
--- src/fitting.rt:115:29
 part-word-requires-3 : tie.Need-part-word-requires-3
 part-word-requires-3 c κs =
     (root-inside _ _ _ _ _ (c .before .before .before .before .before .before .before .before .before .before .before .before .args .gauges) (c .before .before .before .before .before .before .before .before .before .before .before .before .args .height) (c .before .before .before .before .before .before .before .before .before .before .before .before .args .width) (c .before .before .before .before .before .before .before .store-lists .ensures) (c .before .before .before .before .before .before .before .before .before .before .before .before .pre), search needs)
 
--- src/fitting.rt:115:9
 is-against-requires : tie.Need-is-against-requires
 is-against-requires c κs = search needs
 
--- src/fitting.rt:116:9
 pick-requires : tie.Need-pick-requires
 pick-requires c κs =
     root-list _ _ _ _ _ (c .before .before .before .before .before .before .before .before .before .before .before .before .before .before .before .args .gauges) (c .before .before .before .before .before .before .before .before .before .before .before .before .before .before .before .args .height) (c .before .before .before .before .before .before .before .before .before .before .before .before .before .before .before .args .width) (c .before .before .before .before .before .before .before .before .before .before .store-lists .ensures) _ _ _ _ (c .before .before .before .before .before .before .part-word .ensures) (c .before .before .before .before .part-word2 .ensures) (c .before .before .part-word3 .ensures) (c .before .is-against .ensures) (c .before .before .before .before .before .before .before .before .before .before .before .before .before .before .before .pre)
 
--- src/fitting.rt:118:9
 refused-requires : tie.Need-refused-requires
 refused-requires c κs = search needs
 
--- src/fitting.rt:118:9
 same-length : tie.Need-same-length
 same-length c = search needs
 
--- src/fitting.rt:118:9
 returns : tie.Need-returns
 returns c =
     face-none _ _ _ _ _ (c .before .before .before .before .before .before .before .before .before .before .before .before .before .before .before .before .before .before .before .args .gauges) (c .before .before .before .before .before .before .before .before .before .before .before .before .before .before .before .before .before .before .before .args .height) (c .before .before .before .before .before .before .before .before .before .before .before .before .before .before .before .before .before .before .before .args .width) (c .before .before .before .before .before .before .before .before .before .before .before .before .before .before .store-lists .ensures) _ _ _ _ (c .before .before .before .before .before .before .before .before .before .before .part-word .ensures) (c .before .before .before .before .before .before .before .before .part-word2 .ensures) (c .before .before .before .before .before .before .part-word3 .ensures) (c .before .before .before .before .before .is-against .ensures) _ _ (c .before .before .before .pick .ensures) (c .before .if1 .taken) _ (c .refused .ensures)
 
--- src/fitting.rt:121:9
 read-item-requires : tie.Need-read-item-requires
 read-item-requires c κs =
     face-reads _ _ _ _ _ (c .before .before .before .before .before .before .before .before .before .before .before .before .before .before .before .before .before .before .before .args .gauges) (c .before .before .before .before .before .before .before .before .before .before .before .before .before .before .before .before .before .before .before .args .height) (c .before .before .before .before .before .before .before .before .before .before .before .before .before .before .before .before .before .before .before .args .width) (c .before .before .before .before .before .before .before .before .before .before .before .before .before .before .store-lists .ensures) _ _ _ _ (c .before .before .before .before .before .before .before .before .before .before .part-word .ensures) (c .before .before .before .before .before .before .before .before .part-word2 .ensures) (c .before .before .before .before .before .before .part-word3 .ensures) (c .before .before .before .before .before .is-against .ensures) _ _ (c .before .before .before .pick .ensures) (c .before .if1 .left) (c .before .before .before .before .before .before .before .before .before .before .before .before .before .before .before .before .before .before .before .pre)
 
--- src/fitting.rt:122:5
 lay-requires : tie.Need-lay-requires
 lay-requires c κs =
     face-lays _ _ _ _ _ (c .before .before .before .before .before .before .before .before .before .before .before .before .before .before .before .before .before .before .before .before .before .before .args .gauges) (c .before .before .before .before .before .before .before .before .before .before .before .before .before .before .before .before .before .before .before .before .before .before .args .height) (c .before .before .before .before .before .before .before .before .before .before .before .before .before .before .before .before .before .before .before .before .before .before .args .width) (c .before .before .before .before .before .before .before .before .before .before .before .before .before .before .before .before .before .store-lists .ensures) _ _ _ _ (c .before .before .before .before .before .before .before .before .before .before .before .before .before .part-word .ensures) (c .before .before .before .before .before .before .before .before .before .before .before .part-word2 .ensures) (c .before .before .before .before .before .before .before .before .before .part-word3 .ensures) (c .before .before .before .before .before .before .before .before .is-against .ensures) _ _ (c .before .before .before .before .before .before .pick .ensures) (c .before .before .before .before .if1 .left) (c .before .before .before .before .before .before .before .before .before .before .before .before .before .before .before .before .before .before .before .before .before .before .pre)
 
--- src/fitting.rt:123:14
 cast-found : tie.Need-cast-found
 cast-found c =
     record { fits = face-counts _ _ _ _ _ (c .before .before .before .before .before .before .before .before .before .before .before .before .before .before .before .before .before .before .before .before .before .before .before .before .before .args .gauges) (c .before .before .before .before .before .before .before .before .before .before .before .before .before .before .before .before .before .before .before .before .before .before .before .before .before .args .height) (c .before .before .before .before .before .before .before .before .before .before .before .before .before .before .before .before .before .before .before .before .before .before .before .before .before .args .width) (c .before .before .before .before .before .before .before .before .before .before .before .before .before .before .before .before .before .before .before .before .store-lists .ensures) _ _ _ _ (c .before .before .before .before .before .before .before .before .before .before .before .before .before .before .before .before .part-word .ensures) (c .before .before .before .before .before .before .before .before .before .before .before .before .before .before .part-word2 .ensures) (c .before .before .before .before .before .before .before .before .before .before .before .before .part-word3 .ensures) (c .before .before .before .before .before .before .before .before .before .before .before .is-against .ensures) _ _ (c .before .before .before .before .before .before .before .before .before .pick .ensures) (c .before .before .before .before .before .before .before .if1 .left) (c .before .before .before .before .before .before .before .before .before .before .before .before .before .before .before .before .before .before .before .before .before .before .before .before .before .pre) }
 
--- src/fitting.rt:123:5
 found-requires : tie.Need-found-requires
 found-requires c κs = search needs
 
--- src/fitting.rt:101:1
 same-length-2 : tie.Need-same-length-2
 same-length-2 c =
     c .before .before .before .before .before .before .before .before .before .before .before .before .before .before .before .before .before .before .before .before .before .store-lists .ensures (c .before .before .before .before .before .before .before .before .before .before .before .before .before .before .before .before .before .before .before .before .before .before .before .before .before .before .pre .tree) (c .before .before .before .before .before .before .before .before .before .before .before .before .before .before .before .before .before .before .before .before .before .before .before .before .before .before .pre .face) .length-kept
 
--- src/fitting.rt:101:1
 same-length-3 : tie.Need-same-length-3
 same-length-3 c = search needs
 
--- src/fitting.rt:101:1
 returns-2 : tie.Need-returns-2
 returns-2 c =
     face-done _ _ _ _ _ (c .before .before .before .before .before .before .before .before .before .before .before .before .before .before .before .before .before .before .before .before .before .before .before .before .before .before .args .gauges) (c .before .before .before .before .before .before .before .before .before .before .before .before .before .before .before .before .before .before .before .before .before .before .before .before .before .before .args .height) (c .before .before .before .before .before .before .before .before .before .before .before .before .before .before .before .before .before .before .before .before .before .before .before .before .before .before .args .width) (c .before .before .before .before .before .before .before .before .before .before .before .before .before .before .before .before .before .before .before .before .before .store-lists .ensures) _ _ _ _ (c .before .before .before .before .before .before .before .before .before .before .before .before .before .before .before .before .before .part-word .ensures) (c .before .before .before .before .before .before .before .before .before .before .before .before .before .before .before .part-word2 .ensures) (c .before .before .before .before .before .before .before .before .before .before .before .before .before .part-word3 .ensures) (c .before .before .before .before .before .before .before .before .before .before .before .before .is-against .ensures) _ _ (c .before .before .before .before .before .before .before .before .before .before .pick .ensures) (c .before .before .before .before .before .before .before .before .if1 .left) (c .before .before .before .before .before .before .before .before .before .before .before .before .before .before .before .before .before .before .before .before .before .before .before .before .before .before .pre) _ _ _ (c .before .before .before .before .before .before .read-item .ensures) (c .before .before .before .lay .ensures) (c .found .ensures)

@@ -1,4 +1,5 @@
 -- `fit::lay::along` meets its contract.
+-- The two ways out are the two of the definition.
 use borrow.Author.Needs.{needs}
 use Rattle.fit.proofs.lay.along.Statement.{statement}
 use Rattle.fit.proofs.lay.along.Tie as tie

@@ -1,4 +1,5 @@
 -- `fit::lay::moved` meets its contract.
+-- The two ways out are the two of the definition, and what is asked keeps the sum in a word.
 use Rattle.fit.proofs.lay.moved.Statement.{statement}
 use Rattle.fit.proofs.lay.moved.Tie as tie
 

@@ -2,7 +2,7 @@
 -- Five stores at the start of a list of at least five words leave the words after them.
 use native.Mathlib.Omega.{arith}
 use lib.ListN.{length-set}
-use Rattle.fit.proofs.ShapeReading.{gauge-words}
+use Rattle.fit.proofs.LayLaws.{gauge-words}
 use borrow.Author.Needs.{needs}
 use Rattle.fit.proofs.lay.write_gauge.Statement.{statement}
 use Rattle.fit.proofs.lay.write_gauge.Tie as tie

@@ -1,4 +1,5 @@
 -- `fit::take::is_against` meets its contract.
+-- The two ways out are the two of the definition.
 use Rattle.fit.proofs.take.is_against.Statement.{statement}
 use Rattle.fit.proofs.take.is_against.Tie as tie
 

@@ -1,7 +1,7 @@
 -- `parts::join::join` meets its contract.
 -- Each call leaves what the next one needs, and the last one puts the merge in the older part's place.
 use borrow.Author.Needs.{needs}
-use Rattle.parts.proofs.JoinedPart.{join-older, join-newer, join-merges, join-copies, join-done}
+use Rattle.parts.proofs.JoinedPart.{join-older, join-newer, join-merges, join-done}
 use Rattle.parts.proofs.join.join.Statement.{statement}
 use Rattle.parts.proofs.join.join.Tie as tie
 use Rattle.parts.proofs.join.join.Reads as reads

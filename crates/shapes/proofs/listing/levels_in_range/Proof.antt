@@ -13,39 +13,30 @@ Inv-loop levels i₀ i = Checked levels i
 abbrev μ-loop : tie.MeasureT-loop
 μ-loop levels i₀ i = length levels - i
 
--- src/listing.rt:20:5
 loop-holds : tie.Need-loop-holds Inv-loop μ-loop
 loop-holds c = checked-start _
 
--- src/listing.rt:21:12
 shared-slice-read-if1 : tie.Need-shared-slice-read-if1 Inv-loop μ-loop
 shared-slice-read-if1 c = search needs
 
--- src/listing.rt:22:13
 returns : tie.Need-returns Inv-loop μ-loop
 returns c = search (needs, checked-low)
 
--- src/listing.rt:24:16
 shared-slice-read-if2 : tie.Need-shared-slice-read-if2 Inv-loop μ-loop
 shared-slice-read-if2 c = search needs
 
--- src/listing.rt:25:13
 returns-2 : tie.Need-returns-2 Inv-loop μ-loop
 returns-2 c = search (needs, checked-high)
 
--- src/listing.rt:27:9
 add-i : tie.Need-add-i Inv-loop μ-loop
 add-i c = search needs
 
--- src/listing.rt:20:5
 loop-less : tie.Need-loop-less Inv-loop μ-loop
 loop-less c = search needs
 
--- src/listing.rt:20:5
 loop-again : tie.Need-loop-again Inv-loop μ-loop
 loop-again c = search (needs, checked-more)
 
--- src/listing.rt:16:1
 returns-3 : tie.Need-returns-3 Inv-loop μ-loop
 returns-3 c = search (needs, checked-all)
 

@@ -1,58 +1,43 @@
 -- `shapes::list` meets its contract: the answer, the output, the arena and the scratch are as defined, refusals included.
+-- Each way out is one of the definition: a check of the file, a check of what was lent, or the list written.
 use mathlib.Core.Path.{refl}
 use native.Mathlib.Omega.{arith}
 use borrow.Author.Needs.{needs}
 use Rattle.shapes.proofs.ListCall.{list-file, list-counts, list-lent, list-writable, list-done}
 use Rattle.shapes.proofs.listing.list.Statement.{statement}
 use Rattle.shapes.proofs.listing.list.Tie as tie
-use Rattle.shapes.proofs.listing.list.Reads as reads
-use Rattle.shapes.proofs.listing.list.Lts as lts
-use Rattle.facefile.proofs.read.Reads as read-reads
-use Rattle.shapes.proofs.listing.lent_number.Reads as lent-number-reads
-use Rattle.shapes.proofs.listing.refused.Reads as refused-reads
-use Rattle.shapes.proofs.listing.write_list.Reads as write-list-reads
 
--- src/listing.rt:75:9
 read-requires : tie.Need-read-requires
 read-requires c κs = search needs
 
--- src/listing.rt:77:9
 refused-requires : tie.Need-refused-requires
 refused-requires c κs = search needs
 
--- src/listing.rt:77:9
 returns : tie.Need-returns
 returns c =
     list-file (c .before .before .before .before .before .before .before .before .before .args .file .now) (c .before .before .before .before .before .before .before .before .before .args .levels .now) (c .before .before .before .before .before .before .before .before .before .args .arena .now) (c .before .before .before .before .before .before .before .before .before .args .scratch .now) (c .before .before .before .before .before .before .before .before .before .args .output .now) _ (c .before .before .before .read .ensures) (c .before .if1 .taken) _ (c .refused .ensures)
 
--- src/listing.rt:79:9
 lent-number-requires : tie.Need-lent-number-requires
 lent-number-requires c κs =
     list-counts (c .before .before .before .before .before .before .before .before .args .file .now) (c .before .before .before .before .before .before .before .before .args .levels .now) (c .before .before .before .before .before .before .before .before .args .arena .now) (c .before .before .before .before .before .before .before .before .args .scratch .now) (c .before .before .before .before .before .before .before .before .args .output .now) _ (c .before .before .read .ensures) (c .if1 .left)
 
--- src/listing.rt:81:9
 refused-requires-2 : tie.Need-refused-requires-2
 refused-requires-2 c κs = search needs
 
--- src/listing.rt:81:9
 returns-2 : tie.Need-returns-2
 returns-2 c =
     list-lent (c .before .before .before .before .before .before .before .before .before .before .before .args .file .now) (c .before .before .before .before .before .before .before .before .before .before .before .args .levels .now) (c .before .before .before .before .before .before .before .before .before .before .before .args .arena .now) (c .before .before .before .before .before .before .before .before .before .before .before .args .scratch .now) (c .before .before .before .before .before .before .before .before .before .before .before .args .output .now) _ (c .before .before .before .before .before .read .ensures) (c .before .before .before .if1 .left) _ (c .before .before .lent-number .ensures) (λ e. let t = c .before .if2 .taken in omega arith) _ (c .refused2 .ensures)
 
--- src/listing.rt:85:16
 write-list-requires : tie.Need-write-list-requires
 write-list-requires c κs =
     list-writable (c .before .before .before .before .before .before .before .before .before .before .before .before .args .file .now) (c .before .before .before .before .before .before .before .before .before .before .before .before .args .levels .now) (c .before .before .before .before .before .before .before .before .before .before .before .before .args .arena .now) (c .before .before .before .before .before .before .before .before .before .before .before .before .args .scratch .now) (c .before .before .before .before .before .before .before .before .before .before .before .before .args .output .now) _ (c .before .before .before .before .before .before .read .ensures) (c .before .before .before .before .if1 .left) _ (c .before .before .before .lent-number .ensures) (let t = c .before .before .if2 .left in omega arith)
 
--- src/listing.rt:69:1
 same-length : tie.Need-same-length
 same-length c = search needs
 
--- src/listing.rt:69:1
 same-length-2 : tie.Need-same-length-2
 same-length-2 c = search needs
 
--- src/listing.rt:69:1
 returns-3 : tie.Need-returns-3
 returns-3 c =
     list-done (c .before .before .before .before .before .before .before .before .before .before .before .before .before .before .before .before .before .args .file .now) (c .before .before .before .before .before .before .before .before .before .before .before .before .before .before .before .before .before .args .levels .now) (c .before .before .before .before .before .before .before .before .before .before .before .before .before .before .before .before .before .args .arena .now) (c .before .before .before .before .before .before .before .before .before .before .before .before .before .before .before .before .before .args .scratch .now) (c .before .before .before .before .before .before .before .before .before .before .before .before .before .before .before .before .before .args .output .now) _ (c .before .before .before .before .before .before .before .before .before .before .before .read .ensures) (c .before .before .before .before .before .before .before .before .before .if1 .left) _ (c .before .before .before .before .before .before .before .before .lent-number .ensures) (let t = c .before .before .before .before .before .before .before .if2 .left in omega arith) _ _ _ _ _ (c .before .before .before .before .write-list .ensures) refl

@@ -5,53 +5,37 @@ use borrow.Author.Needs.{needs}
 use Rattle.shapes.proofs.RootLaws.{writes-ready, writes-few, writes-height, writes-width}
 use Rattle.shapes.proofs.listing.write_list.Statement.{statement}
 use Rattle.shapes.proofs.listing.write_list.Tie as tie
-use Rattle.shapes.proofs.listing.write_list.Reads as reads
-use Rattle.shapes.proofs.listing.write_list.Lts as lts
-use Rattle.parts.proofs.build.build.Reads as build-reads
-use Rattle.shapes.proofs.write.write_by_height.Reads as write-by-height-reads
-use Rattle.shapes.proofs.write.write_by_width.Reads as write-by-width-reads
 
--- src/listing.rt:60:9
 build-requires : tie.Need-build-requires
 build-requires c κs = c .before .before .before .before .before .pre .ready
 
--- src/listing.rt:62:16
 write-by-width-requires : tie.Need-write-by-width-requires
 write-by-width-requires c κs = writes-ready _ _ _ _ _ _ (c .before .before .before .before .before .build .ensures) (c .before .before .before .before .before .before .before .before .before .before .before .pre)
 
--- src/listing.rt:62:16
 cast-result : tie.Need-cast-result
 cast-result c = record { fits = let few = writes-few _ _ _ _ _ _ (c .before .before .before .before .before .before .before .before .build .ensures) (c .before .before .before .before .before .before .before .before .before .before .before .before .before .before .pre) _ (λ rs l. c .before .before .write-by-width .ensures rs l .0) in omega arith }
 
--- src/listing.rt:62:9
 same-length : tie.Need-same-length
 same-length c = search needs
 
--- src/listing.rt:62:9
 same-length-2 : tie.Need-same-length-2
 same-length-2 c = search needs
 
--- src/listing.rt:62:9
 returns : tie.Need-returns
 returns c = writes-width _ _ _ _ _ _ (c .before .before .before .before .before .before .before .before .build .ensures) (c .before .before .before .before .before .before .before .before .before .before .before .before .before .before .pre) _ _ (let t = c .before .before .before .before .before .if1 .taken in omega arith) (c .before .before .write-by-width .ensures)
 
--- src/listing.rt:64:5
 write-by-height-requires : tie.Need-write-by-height-requires
 write-by-height-requires c κs = writes-ready _ _ _ _ _ _ (c .before .before .before .before .before .build .ensures) (c .before .before .before .before .before .before .before .before .before .before .before .pre)
 
--- src/listing.rt:64:5
 cast-result-2 : tie.Need-cast-result-2
 cast-result-2 c = record { fits = let few = writes-few _ _ _ _ _ _ (c .before .before .before .before .before .before .before .before .build .ensures) (c .before .before .before .before .before .before .before .before .before .before .before .before .before .before .pre) _ (λ rs l. c .before .before .write-by-height .ensures rs l .0) in omega arith }
 
--- src/listing.rt:56:1
 same-length-3 : tie.Need-same-length-3
 same-length-3 c = search needs
 
--- src/listing.rt:56:1
 same-length-4 : tie.Need-same-length-4
 same-length-4 c = search needs
 
--- src/listing.rt:56:1
 returns-2 : tie.Need-returns-2
 returns-2 c = writes-height _ _ _ _ _ _ (c .before .before .before .before .before .before .before .before .build .ensures) (c .before .before .before .before .before .before .before .before .before .before .before .before .before .before .pre) _ _ (λ e. let t = c .before .before .before .before .before .if1 .left in omega arith) (c .before .before .write-by-height .ensures)
 

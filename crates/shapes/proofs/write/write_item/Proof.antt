@@ -1,4 +1,5 @@
 -- `shapes::write::write_item` meets its contract.
+-- Both places are inside, and the two stores are the definition.
 use borrow.Author.Needs.{needs}
 use native.Mathlib.Omega.{arith}
 use lib.ListN.{length-set}

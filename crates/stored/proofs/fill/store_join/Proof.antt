@@ -7,66 +7,53 @@ use Rattle.stored.proofs.JoinedLists.{join-newer, join-before, join-old
 use Rattle.stored.proofs.fill.store_join.Statement.{statement}
 use Rattle.stored.proofs.fill.store_join.Tie as tie
 
--- src/fill.rt:95:17
 sub-newer : tie.Need-sub-newer
 sub-newer c =
     let g = c .before .pre .3 .newer-before in omega arith
 
--- src/fill.rt:96:9
 part-word-requires : tie.Need-part-word-requires
 part-word-requires c κs =
     (join-newer _ _ _ _ _ refl (c .before .before .pre) .0, search needs)
 
--- src/fill.rt:97:24
 mul-older : tie.Need-mul-older
 mul-older c =
     record { fits = let few = c .before .before .before .pre .3 .room .part in let before = join-before _ _ _ _ _ (c .part-word .ensures) (c .before .before .before .pre) in omega arith }
 
--- src/fill.rt:97:17
 sub-older : tie.Need-sub-older
 sub-older c =
     join-before _ _ _ _ _ (c .part-word .ensures) (c .before .before .before .pre)
 
--- src/fill.rt:98:9
 part-word-requires-2 : tie.Need-part-word-requires-2
 part-word-requires-2 c κs =
     (join-older _ _ _ _ _ (c .before .part-word .ensures) (c .before .before .before .before .pre) .0, search needs)
 
--- src/fill.rt:99:9
 stretch-requires : tie.Need-stretch-requires
 stretch-requires c κs =
     join-older _ _ _ _ _ (c .before .before .before .part-word .ensures) (c .before .before .before .before .before .before .pre)
 
--- src/fill.rt:100:9
 stretch-requires-2 : tie.Need-stretch-requires-2
 stretch-requires-2 c κs =
     join-newer _ _ _ _ _ (c .before .before .before .before .before .part-word .ensures) (c .before .before .before .before .before .before .before .before .pre)
 
--- src/fill.rt:101:9
 merge-lists-requires : tie.Need-merge-lists-requires
 merge-lists-requires c κs =
     join-merges _ _ _ _ _ (c .before .before .before .before .before .before .before .part-word .ensures) _ _ (c .before .before .before .stretch .ensures) (c .before .stretch2 .ensures) (c .before .before .before .before .before .before .before .before .before .before .pre)
 
--- src/fill.rt:102:57
 add-store-entry : tie.Need-add-store-entry
 add-store-entry c =
     record { fits = let few = join-gauges _ _ _ _ _ (c .before .before .before .before .before .before .before .before .before .before .before .part-word .ensures) (c .before .before .before .before .before .before .before .before .before .before .before .before .before .before .pre) _ (c .before .before .before .before .before .before .before .before .before .part-word2 .ensures) in omega arith }
 
--- src/fill.rt:102:56
 cast-store-entry : tie.Need-cast-store-entry
 cast-store-entry c =
     record { fits = let few = join-gauges _ _ _ _ _ (c .before .before .before .before .before .before .before .before .before .before .before .part-word .ensures) (c .before .before .before .before .before .before .before .before .before .before .before .before .before .before .pre) _ (c .before .before .before .before .before .before .before .before .before .part-word2 .ensures) in omega arith }
 
--- src/fill.rt:102:5
 store-entry-requires : tie.Need-store-entry-requires
 store-entry-requires c κs =
     join-stores _ _ _ _ _ (c .before .before .before .before .before .before .before .before .before .before .before .part-word .ensures) _ _ (c .before .before .before .before .before .before .before .stretch .ensures) (c .before .before .before .before .before .stretch2 .ensures) _ _ (c .before .before .before .merge-lists .ensures) (c .before .before .before .before .before .before .before .before .before .before .before .before .before .before .pre)
 
--- src/fill.rt:91:1
 same-length : tie.Need-same-length
 same-length c = search needs
 
--- src/fill.rt:91:1
 returns : tie.Need-returns
 returns c =
     join-done _ _ _ _ _ (c .before .before .before .before .before .before .before .before .before .before .before .before .before .before .part-word .ensures) _ _ (c .before .before .before .before .before .before .before .before .before .before .stretch .ensures) (c .before .before .before .before .before .before .before .before .stretch2 .ensures) _ _ (c .before .before .before .before .before .before .merge-lists .ensures) _ (c .before .before .before .before .before .before .before .before .before .before .before .before .part-word2 .ensures) _ (c .before .before .store-entry .ensures)

@@ -15,132 +15,106 @@ Inv-loop file scratch₀ at₀ part₀ to₀ scratch at part to = Filling file s
 abbrev μ-loop : tie.MeasureT-loop
 μ-loop file scratch₀ at₀ part₀ to₀ scratch at part to = length file - at
 
--- src/fill.rt:115:5
 loop-holds : tie.Need-loop-holds Inv-loop μ-loop
 loop-holds c =
     search (needs, filling-start)
 
--- src/fill.rt:116:20
 shared-slice-read-kind : tie.Need-shared-slice-read-kind Inv-loop μ-loop
 shared-slice-read-kind c =
     search needs
 
--- src/fill.rt:118:35
 add-wide : tie.Need-add-wide Inv-loop μ-loop
 add-wide c =
     search needs
 
--- src/fill.rt:118:30
 shared-slice-read-wide : tie.Need-shared-slice-read-wide Inv-loop μ-loop
 shared-slice-read-wide c =
     let inside = gauge-inside _ _ _ _ _ _ (c .before .before .before .before .loop .inv) (c .before .before .before .loop-test .taken) (c .before .if1 .taken) in omega arith
 
--- src/fill.rt:118:17
 wide-requires : tie.Need-wide-requires Inv-loop μ-loop
 wide-requires c κs =
     search needs
 
--- src/fill.rt:119:23
 add-end : tie.Need-add-end Inv-loop μ-loop
 add-end c =
     search needs
 
--- src/fill.rt:119:32
 mul-end : tie.Need-mul-end Inv-loop μ-loop
 mul-end c =
     search needs
 
--- src/fill.rt:119:23
 add-end-2 : tie.Need-add-end-2 Inv-loop μ-loop
 add-end-2 c =
     let inside = gauge-inside _ _ _ _ _ _ (c .before .before .before .before .before .loop .inv) (c .before .before .before .before .loop-test .taken) (c .before .before .if1 .taken) in let w = c .wide .ensures .0 in omega arith
 
--- src/fill.rt:120:50
 add-store-gauge : tie.Need-add-store-gauge Inv-loop μ-loop
 add-store-gauge c =
     search needs
 
--- src/fill.rt:120:44
 sub-store-gauge : tie.Need-sub-store-gauge Inv-loop μ-loop
 sub-store-gauge c =
     search needs
 
--- src/fill.rt:120:44
 part-store-gauge-start : tie.Need-part-store-gauge-start Inv-loop μ-loop
 part-store-gauge-start c =
     search needs
 
--- src/fill.rt:120:44
 part-store-gauge-end : tie.Need-part-store-gauge-end Inv-loop μ-loop
 part-store-gauge-end c =
     let inside = gauge-inside _ _ _ _ _ _ (c .before .before .before .before .before .before .loop .inv) (c .before .before .before .before .before .loop-test .taken) (c .before .before .before .if1 .taken) in let w = c .before .wide .ensures .0 in omega arith
 
--- src/fill.rt:120:13
 store-gauge-requires : tie.Need-store-gauge-requires Inv-loop μ-loop
 store-gauge-requires c κs =
     gauge-room _ _ _ _ _ _ (c .before .before .before .before .before .before .before .loop .inv) (c .before .before .before .before .before .before .loop-test .taken) (c .before .before .before .before .if1 .taken) _ (c .before .before .wide .ensures .0)
 
--- src/fill.rt:121:13
 add-to : tie.Need-add-to Inv-loop μ-loop
 add-to c =
     record { fits = let few = gauge-fits _ _ _ _ _ _ (c .before .before .before .before .before .before .before .before .before .before .loop .inv) (c .before .before .before .before .before .before .before .before .before .loop-test .taken) (c .before .before .before .before .before .before .before .if1 .taken) _ (c .before .before .before .before .before .wide .ensures .0) in omega arith }
 
--- src/fill.rt:123:13
 add-part : tie.Need-add-part Inv-loop μ-loop
 add-part c =
     record { fits = let few = gauge-room _ _ _ _ _ _ (c .before .before .before .before .before .before .before .before .before .before .loop .inv) (c .before .before .before .before .before .before .before .before .before .loop-test .taken) (c .before .before .before .before .before .before .before .if1 .taken) _ (c .before .before .before .before .before .wide .ensures .0) .0 .part in omega arith }
 
--- src/fill.rt:115:5
 loop-less : tie.Need-loop-less Inv-loop μ-loop
 loop-less c =
     search needs
 
--- src/fill.rt:115:5
 loop-again : tie.Need-loop-again Inv-loop μ-loop
 loop-again c =
     filling-gauge _ _ _ _ _ _ (c .before .before .before .before .before .before .before .before .before .before .loop .inv) (c .before .before .before .before .before .before .before .before .before .loop-test .taken) (c .before .before .before .before .before .before .before .if1 .taken) _ (c .before .before .before .before .before .wide .ensures .0) _ (c .before .before .store-gauge .ensures)
 
--- src/fill.rt:125:19
 store-join-requires : tie.Need-store-join-requires Inv-loop μ-loop
 store-join-requires c κs =
     join-ready _ _ _ _ _ _ (c .before .before .before .before .loop .inv) (c .before .before .before .loop-test .taken) (c .before .if1 .left) _ refl
 
--- src/fill.rt:125:13
 add-to-2 : tie.Need-add-to-2 Inv-loop μ-loop
 add-to-2 c =
     record { fits = let few = join-fits _ _ _ _ _ _ (c .before .before .before .before .before .before .before .loop .inv) (c .before .before .before .before .before .before .loop-test .taken) (c .before .before .before .before .if1 .left) _ refl _ _ (c .before .before .store-join .ensures) .1 in omega arith }
 
--- src/fill.rt:126:13
 add-at : tie.Need-add-at Inv-loop μ-loop
 add-at c =
     search needs
 
--- src/fill.rt:127:13
 add-part-2 : tie.Need-add-part-2 Inv-loop μ-loop
 add-part-2 c =
     record { fits = let few = join-ready _ _ _ _ _ _ (c .before .before .before .before .before .before .before .loop .inv) (c .before .before .before .before .before .before .loop-test .taken) (c .before .before .before .before .if1 .left) _ refl .3 .room .part in omega arith }
 
--- src/fill.rt:115:5
 loop-less-2 : tie.Need-loop-less-2 Inv-loop μ-loop
 loop-less-2 c =
     search needs
 
--- src/fill.rt:115:5
 loop-again-2 : tie.Need-loop-again-2 Inv-loop μ-loop
 loop-again-2 c =
     filling-join _ _ _ _ _ _ (c .before .before .before .before .before .before .before .loop .inv) (c .before .before .before .before .before .before .loop-test .taken) (c .before .before .before .before .if1 .left) _ refl _ _ (c .before .before .store-join .ensures)
 
--- src/fill.rt:130:5
 sub-result : tie.Need-sub-result Inv-loop μ-loop
 sub-result c =
     filled-some _ _ _ _ _ _ (c .before .loop .inv) (c .loop-test .left)
 
--- src/fill.rt:108:1
 same-length : tie.Need-same-length Inv-loop μ-loop
 same-length c =
     c .before .loop .inv .length-kept
 
--- src/fill.rt:108:1
 returns : tie.Need-returns Inv-loop μ-loop
 returns c =
     filled _ _ _ _ _ _ (c .before .loop .inv) (c .loop-test .left)

@@ -5,10 +5,6 @@ use borrow.Author.Needs.{needs}
 use Rattle.stored.proofs.Packing.{Packing, packing-start, packing-room, packing-more, packing-done}
 use Rattle.stored.proofs.fill.store_sizes.Statement.{statement}
 use Rattle.stored.proofs.fill.store_sizes.Tie as tie
-use Rattle.stored.proofs.fill.store_sizes.Reads as reads
-use Rattle.stored.proofs.fill.store_sizes.Lts as lts
-use Rattle.facefile.proofs.field.field.Reads as field-reads
-use Rattle.stored.proofs.item.packed.Reads as packed-reads
 
 abbrev Inv-loop : tie.InvT-loop
 Inv-loop scratch₀ to bytes count k₀ scratch k = Packing scratch₀ to bytes count scratch k
@@ -16,77 +12,62 @@ Inv-loop scratch₀ to bytes count k₀ scratch k = Packing scratch₀ to bytes 
 abbrev μ-loop : tie.MeasureT-loop
 μ-loop scratch₀ to bytes count k₀ scratch k = count - k
 
--- src/fill.rt:40:5
 loop-holds : tie.Need-loop-holds Inv-loop μ-loop
 loop-holds c =
     search (needs, packing-start)
 
--- src/fill.rt:41:35
 mul-field : tie.Need-mul-field Inv-loop μ-loop
 mul-field c =
     search needs
 
--- src/fill.rt:41:13
 field-requires : tie.Need-field-requires Inv-loop μ-loop
 field-requires c κs =
     search needs
 
--- src/fill.rt:42:34
 mul-field-2 : tie.Need-mul-field-2 Inv-loop μ-loop
 mul-field-2 c =
     search needs
 
--- src/fill.rt:42:34
 add-field : tie.Need-add-field Inv-loop μ-loop
 add-field c =
     search needs
 
--- src/fill.rt:42:13
 field-requires-2 : tie.Need-field-requires-2 Inv-loop μ-loop
 field-requires-2 c κs =
     search needs
 
--- src/fill.rt:43:27
 packed-requires : tie.Need-packed-requires Inv-loop μ-loop
 packed-requires c κs =
     (c .before .field .ensures .1, c .field2 .ensures .1)
 
--- src/fill.rt:43:17
 add-scratch : tie.Need-add-scratch Inv-loop μ-loop
 add-scratch c =
     search needs
 
--- src/fill.rt:43:9
 mul-scratch : tie.Need-mul-scratch Inv-loop μ-loop
 mul-scratch c =
     search needs
 
--- src/fill.rt:43:9
 slice-write-scratch : tie.Need-slice-write-scratch Inv-loop μ-loop
 slice-write-scratch c =
     packing-room _ _ _ _ _ _ (c .before .before .before .before .loop .inv) (c .before .before .before .loop-test .taken) (c .before .before .before .before .before .before .before .pre .1)
 
--- src/fill.rt:44:9
 add-k : tie.Need-add-k Inv-loop μ-loop
 add-k c =
     search needs
 
--- src/fill.rt:40:5
 loop-less : tie.Need-loop-less Inv-loop μ-loop
 loop-less c =
     search needs
 
--- src/fill.rt:40:5
 loop-again : tie.Need-loop-again Inv-loop μ-loop
 loop-again c =
     packing-more _ _ _ _ _ _ (c .before .before .before .before .loop .inv) (c .before .before .before .loop-test .taken) (c .before .before .before .before .before .before .before .pre .1) _ _ _ (c .before .before .field .ensures) (c .before .field2 .ensures) (c .packed .ensures)
 
--- src/fill.rt:34:1
 same-length : tie.Need-same-length Inv-loop μ-loop
 same-length c =
     search needs
 
--- src/fill.rt:34:1
 returns : tie.Need-returns Inv-loop μ-loop
 returns c =
     packing-done _ _ _ _ _ _ (c .before .loop .inv) (c .loop-test .left)

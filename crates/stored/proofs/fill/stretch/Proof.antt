@@ -1,30 +1,25 @@
--- `stored::fill::stretch` meets its contract: it reads three words of the table.
+-- `stored::fill::stretch` meets its contract.
+-- It reads three words of the table, and they are the stretch by `read-stretch`.
 use borrow.Author.Needs.{needs}
 use Rattle.stored.proofs.JoinedLists.{read-stretch}
 use Rattle.stored.proofs.fill.stretch.Statement.{statement}
 use Rattle.stored.proofs.fill.stretch.Tie as tie
 
--- src/fill.rt:83:15
 part-word-requires : tie.Need-part-word-requires
 part-word-requires c κs = search needs
 
--- src/fill.rt:84:16
 part-word-requires-2 : tie.Need-part-word-requires-2
 part-word-requires-2 c κs = search needs
 
--- src/fill.rt:85:47
 part-word-requires-3 : tie.Need-part-word-requires-3
 part-word-requires-3 c κs = search needs
 
--- src/fill.rt:85:39
 byte-of-requires : tie.Need-byte-of-requires
 byte-of-requires c κs = search needs
 
--- src/fill.rt:85:17
 runs-across-requires : tie.Need-runs-across-requires
 runs-across-requires c κs = search needs
 
--- src/fill.rt:78:1
 returns : tie.Need-returns
 returns c =
     read-stretch (c .before .before .before .before .before .before .args .scratch .now) (c .before .before .before .before .before .before .args .part) (c .before .before .before .before .before .before .args .join) _ _ _ _ _ (c .before .before .before .before .part-word .ensures) (c .before .before .before .part-word2 .ensures) (c .before .before .part-word3 .ensures) (c .before .byte-of .ensures) (c .runs-across .ensures)

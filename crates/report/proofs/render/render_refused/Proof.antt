@@ -1,9 +1,9 @@
--- `report::render_refused` meets its contract.
+-- `report::render::render_refused` meets its contract.
 -- The word and the number are the line, by `refused-printed`.
 use borrow.Author.Needs.{needs}
 use Rattle.report.proofs.Faces.{refused-printed}
-use Rattle.report.proofs.render_refused.Statement.{statement}
-use Rattle.report.proofs.render_refused.Tie as tie
+use Rattle.report.proofs.render.render_refused.Statement.{statement}
+use Rattle.report.proofs.render.render_refused.Tie as tie
 
 slice-aggregate-write-named : tie.Need-slice-aggregate-write-named
 slice-aggregate-write-named c = search needs

@@ -1,9 +1,9 @@
--- `report::render` meets its contract.
+-- `report::render::render` meets its contract.
 -- The four parts are appended in turn from the buffer's start, and are the text by `faces-printed`.
 use borrow.Author.Needs.{needs}
 use Rattle.report.proofs.Faces.{faces-printed}
-use Rattle.report.proofs.render.Statement.{statement}
-use Rattle.report.proofs.render.Tie as tie
+use Rattle.report.proofs.render.render.Statement.{statement}
+use Rattle.report.proofs.render.render.Tie as tie
 
 cast-count : tie.Need-cast-count
 cast-count c = search needs
