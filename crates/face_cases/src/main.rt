@@ -1,23 +1,19 @@
 // For each file that an argument names, prints what the calls on a face file give: the number and the counts that
 // facefile::read answers, the size bytes of gauges, and the levels.
-use libc::STDOUT_FILENO;
 ghost use Prim.Native.Nat.{_≤_};
 ghost use lib.ListN.{length};
 ghost use mathlib.Core.Path.{_≡_};
-
-// What a levels buffer holds before a call. No level has this value.
-const UNTOUCHED: u8 = 170;
+use showing::face::show_face;
+use showing::file::read_file;
+use showing::kept::BLANK;
+use showing::kept::is_blank;
+use showing::kept::put_kept;
+use showing::print::put;
+use showing::print::put_number;
+use showing::print::put_word;
 
 // The room for levels: a face has at most 512 sizes, and one call is lent a byte more.
 const ROOM: usize = 513;
-
-fn put(text: &[u8]) {
-    io::write_all(STDOUT_FILENO, text);
-}
-
-fn put_number(number: u64) {
-    io::print_decimal(STDOUT_FILENO, number);
-}
 
 fn wide(byte: u8) -> u64 {
     byte as u64
@@ -48,28 +44,8 @@ fn put_levels(levels: &[u8]) {
     }
 }
 
-fn is_untouched(levels: &[u8]) -> bool {
-    let mut i = 0;
-    while i < levels.len() {
-        if levels[i] != UNTOUCHED {
-            return false;
-        }
-        i += 1;
-    }
-    true
-}
-
-fn put_kept(levels: &[u8]) {
-    if is_untouched(levels) {
-        put(b" kept\n");
-    } else {
-        put(b" changed\n");
-    }
-}
-
 fn show_gauge(file: &[u8], gauge: u32) {
-    put(b"gauge ");
-    put_number(gauge as u64);
+    put_word(b"gauge ", gauge);
     put(b": ");
     put_bytes(facefile::gauge_bytes(file, gauge));
     put(b"\n");
@@ -98,18 +74,17 @@ fn show_gauges(file: &[u8], gauges: u32)
     }
 }
 
-// Room for levels, none of them filled in. The `ensures` gives only the length, which lending a part of it needs.
+// Room for levels, none of them filled in: no level is BLANK. The `ensures` gives only the length, which lending a part of it needs.
 fn levels_room() -> [u8; ROOM]
     ensures { λ r. ⌜ 513 ≡ length r ⌝ }
 {
-    [UNTOUCHED; ROOM]
+    [BLANK; ROOM]
 }
 
 // The levels call that is to fill the buffer.
 fn show_levels(file: &[u8], levels: &mut [u8]) {
     let number = levels::fill(file, levels);
-    put(b"levels ");
-    put_number(number as u64);
+    put_word(b"levels ", number);
     put(b": ");
     put_levels(levels);
     put(b"\n");
@@ -118,9 +93,9 @@ fn show_levels(file: &[u8], levels: &mut [u8]) {
 // The levels call that is to refuse the file or the buffer: its number, and whether the buffer is as it was.
 fn show_refusal(word: &[u8], file: &[u8], levels: &mut [u8]) {
     let number = levels::fill(file, levels);
-    put(word);
-    put_number(number as u64);
-    put_kept(levels);
+    put_word(word, number);
+    put_kept(b"", is_blank(levels));
+    put(b"\n");
 }
 
 fn show_own_length(file: &[u8], sizes: usize)
@@ -163,14 +138,7 @@ fn show_refused(file: &[u8]) {
 
 fn show(name: &[u8], file: &[u8]) {
     let face = facefile::read(file);
-    put(name);
-    put(b" ");
-    put_number(face.number as u64);
-    put(b" ");
-    put_number(face.gauges as u64);
-    put(b" ");
-    put_number(face.sizes as u64);
-    put(b"\n");
+    show_face(name, face);
     if face.number == 0 {
         show_taken(file, face.gauges, face.sizes);
     } else {
@@ -181,15 +149,12 @@ fn show(name: &[u8], file: &[u8]) {
 fn show_argument(argument: usize) {
     let mut path = io::buffer();
     let length = os::arg(argument, &mut path);
-    let fd = os::open_read(&path[..length]);
-    if fd < 0 {
-        os::fail(&path[..length]);
-        return;
-    }
     let mut room = io::large_buffer();
-    let got = io::read_full(fd, &mut room);
-    libc::close(fd);
-    show(&path[..length], &room[..got]);
+    let found = read_file(&path[..length], &mut room);
+    let bytes = found.length;
+    if found.opened {
+        show(&path[..length], &room[..bytes]);
+    }
 }
 
 fn main() {

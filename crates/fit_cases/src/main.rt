@@ -5,26 +5,13 @@
 //
 // For each argument come first the calls on the file with the largest opening, or with one that is wrong or too small:
 // under several tables of levels, and with levels and buffers that are refused. Then come its openings in turn.
+mod calling;
 mod calls;
 mod openings;
-mod print;
 mod shown;
-mod tables;
 
-use print::put;
-use print::put_number;
-
-// The line on a file: its name, and what the reader of face files says of it.
-fn show_face(name: &[u8], face: facefile::Face) {
-    put(name);
-    put(b" ");
-    put_number(face.number as u64);
-    put(b" ");
-    put_number(face.gauges as u64);
-    put(b" ");
-    put_number(face.sizes as u64);
-    put(b"\n");
-}
+use showing::face::show_face;
+use showing::file::read_file;
 
 fn show(name: &[u8], wanted: &[u8], file: &[u8]) {
     let face = facefile::read(file);
@@ -40,15 +27,12 @@ fn show(name: &[u8], wanted: &[u8], file: &[u8]) {
 // What an argument asks for: the file that it names, and its openings.
 fn show_word(word: &[u8]) {
     let name = openings::name_length(word);
-    let fd = os::open_read(&word[..name]);
-    if fd < 0 {
-        os::fail(&word[..name]);
-        return;
-    }
     let mut room = io::large_buffer();
-    let got = io::read_full(fd, &mut room);
-    libc::close(fd);
-    show(&word[..name], &word[name..], &room[..got]);
+    let found = read_file(&word[..name], &mut room);
+    let bytes = found.length;
+    if found.opened {
+        show(&word[..name], &word[name..], &room[..bytes]);
+    }
 }
 
 fn show_argument(argument: usize) {

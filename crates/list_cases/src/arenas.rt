@@ -2,19 +2,15 @@
 ghost use mathlib.Core.Path.{_≡_};
 ghost use Prim.Native.Nat.{_≤_};
 ghost use lib.ListN.{length};
-use crate::print::put;
-use crate::print::put_word;
+use showing::list::put_reading;
+use showing::print::put;
 
 const WORDS: usize = 16_384;
 
 // What the reading call gives at a place.
 fn show_reading(name: &[u8], arena: &[u32], place: u32) {
-    let reading = maxplus::read(arena, place);
     put(name);
-    put_word(b": ", reading.number);
-    put_word(b" ", reading.m);
-    put_word(b" ", reading.p);
-    put(b"\n");
+    put_reading(b": ", arena, place);
 }
 
 // Nothing but the head, of level 8. The `ensures` gives only the length, which lending a part of it needs.

@@ -1,282 +1,154 @@
-// Calls of the list call on one file.
-ghost use mathlib.Core.Path.{_≡_};
+// Calls of the list call on one file. Each is given what a right call is, but for what its name says.
 ghost use Prim.Native.Nat.{_≤_};
-ghost use lib.ListN.{length};
-use crate::print::put;
-use crate::print::put_number;
-use crate::shown::UNTOUCHED;
-use crate::shown::output_room;
-use crate::shown::put_all_kept;
-use crate::shown::show_list;
-use crate::tables::put_all;
-use crate::tables::put_first;
-use crate::tables::put_last;
-use crate::tables::put_scattered;
+use crate::calling::Given;
+use crate::calling::call;
+use crate::calling::right;
+use showing::kept::WORDS;
+use showing::number::within;
+use showing::tables::FIRST;
+use showing::tables::LAST;
+use showing::tables::OWN;
+use showing::tables::SCATTERED;
 
-// The room for an arena or a scratch: 16 words more than a call needs.
-const WORDS: usize = 16_400;
-
-// The room for levels: a face has at most 512 sizes, and a call is lent a level more.
-const LEVELS: usize = 513;
-
-// How many words of each buffer a call is lent.
-struct Lent {
-    pub arena: usize,
-    pub scratch: usize,
-    pub output: usize,
+// Tables of levels other than all 1, with four words of output more than a call needs.
+fn show_other_tables(file: &[u8], given: Given) {
+    let mut high = given;
+    high.level = 8;
+    call(b"all 8", file, high);
+    let mut own = given;
+    own.table = OWN;
+    call(b"own", file, own);
+    let mut scattered = given;
+    scattered.table = SCATTERED;
+    scattered.arena = WORDS;
+    scattered.scratch = WORDS;
+    call(b"scattered, longer buffers", file, scattered);
 }
 
-// Buffers of so many words.
-fn words(arena: usize, scratch: usize, output: usize) -> Lent
-    ensures { λ r. ⌜ (r .arena ≡ arena) × (r .scratch ≡ scratch) × (r .output ≡ output) ⌝ }
+// The calls that are taken.
+fn show_tables(file: &[u8], right: Given)
+    requires { ⌜ right .output ≤ 900 ⌝ }
 {
-    Lent {
-        arena,
-        scratch,
-        output,
-    }
-}
-
-// Buffers of the length that a call needs, with so many words of output.
-fn enough(output: usize) -> Lent
-    ensures { λ r. ⌜ (r .arena ≡ 16_384) × (r .scratch ≡ 16_384) × (r .output ≡ output) ⌝ }
-{
-    words(16_384, 16_384, output)
-}
-
-// Room for an arena or a scratch, none of it written.
-fn words_room() -> [u32; WORDS]
-    ensures { λ r. ⌜ 16_400 ≡ length r ⌝ }
-{
-    [UNTOUCHED; WORDS]
-}
-
-fn levels_room() -> [u8; LEVELS]
-    ensures { λ r. ⌜ 513 ≡ length r ⌝ }
-{
-    [1; LEVELS]
-}
-
-// One call: its number and what it gave, or its number and its count and whether the buffers are as they were.
-fn report(file: &[u8], levels: &[u8], arena: &mut [u32], scratch: &mut [u32], output: &mut [u32]) {
-    let listed = shapes::list(file, levels, arena, scratch, output);
-    put(b": ");
-    put_number(listed.number as u64);
-    if listed.number == 0 {
-        show_list(arena, output, listed.count);
-    } else {
-        put(b" ");
-        put_number(listed.count as u64);
-        put_all_kept(arena, scratch, output);
-    }
-}
-
-// One call with buffers of so many words, under a name.
-fn call(name: &[u8], file: &[u8], levels: &[u8], lent: Lent)
-    requires { ⌜ (lent .arena ≤ 16_400) × (lent .scratch ≤ 16_400) × (lent .output ≤ 904) ⌝ }
-{
-    let mut arena = words_room();
-    let mut scratch = words_room();
-    let mut output = output_room();
-    let arena_words = lent.arena;
-    let scratch_words = lent.scratch;
-    let output_words = lent.output;
-    put(name);
-    report(
-        file,
-        levels,
-        &mut arena[..arena_words],
-        &mut scratch[..scratch_words],
-        &mut output[..output_words],
-    );
-}
-
-// The call where all levels are the same.
-fn show_all(name: &[u8], file: &[u8], levels: &mut [u8], level: u8, output: usize)
-    requires { ⌜ output ≤ 904 ⌝ }
-{
-    put_all(levels, level);
-    call(name, file, levels, enough(output));
-}
-
-// The call under document 01's own levels.
-fn show_own(file: &[u8], levels: &mut [u8], output: usize)
-    requires { ⌜ output ≤ 904 ⌝ }
-{
-    levels::fill(file, levels);
-    call(b"own", file, levels, enough(output));
-}
-
-// The call under scattered levels, lent buffers that are longer than it needs.
-fn show_scattered(file: &[u8], levels: &mut [u8], output: usize)
-    requires { ⌜ output ≤ 904 ⌝ }
-{
-    put_scattered(levels);
-    call(
-        b"scattered, longer buffers",
-        file,
-        levels,
-        words(WORDS, WORDS, output),
-    );
-}
-
-// The call under each table of levels, where it needs so many words of output.
-fn show_tables(file: &[u8], levels: &mut [u8], need: usize)
-    requires { ⌜ need ≤ 900 ⌝ }
-{
-    show_all(b"all 1, exact output", file, levels, 1, need);
-    show_all(b"all 8", file, levels, 8, need + 4);
-    show_own(file, levels, need + 4);
-    show_scattered(file, levels, need + 4);
+    call(b"all 1, exact output", file, right);
+    let mut more = right;
+    more.output = right.output + 4;
+    show_other_tables(file, more);
 }
 
 // Levels that are too many or too few.
-fn show_level_counts(file: &[u8], levels: &[u8], sizes: usize, need: usize)
-    requires { ⌜ (513 ≡ length (now levels)) × (1 ≤ sizes) × (sizes ≤ 512) × (need ≤ 900) ⌝ }
+fn show_level_counts(file: &[u8], right: Given)
+    requires { ⌜ (1 ≤ right .levels) × (right .levels ≤ 512) ⌝ }
 {
-    let less = sizes - 1;
-    let more = sizes + 1;
-    call(b"one level less", file, &levels[..less], enough(need));
-    call(b"one level more", file, &levels[..more], enough(need));
-    call(b"no levels", file, &levels[..0], enough(need));
+    let mut given = right;
+    given.levels = right.levels - 1;
+    call(b"one level less", file, given);
+    given.levels = right.levels + 1;
+    call(b"one level more", file, given);
+    given.levels = 0;
+    call(b"no levels", file, given);
 }
 
-// The call with another first level than 1.
-fn show_first(name: &[u8], file: &[u8], levels: &mut [u8], level: u8, need: usize)
-    requires { ⌜ need ≤ 900 ⌝ }
-{
-    put_first(levels, level);
-    call(name, file, levels, enough(need));
-    put_first(levels, 1);
+// A first or a last level that is too low.
+fn show_low_levels(file: &[u8], right: Given) {
+    let mut given = right;
+    given.level = 0;
+    given.table = FIRST;
+    call(b"first level 0", file, given);
+    given.table = LAST;
+    call(b"last level 0", file, given);
 }
 
-// The call with another last level than 1.
-fn show_last(name: &[u8], file: &[u8], levels: &mut [u8], level: u8, need: usize)
-    requires { ⌜ need ≤ 900 ⌝ }
-{
-    put_last(levels, level);
-    call(name, file, levels, enough(need));
-    put_last(levels, 1);
-}
-
-// A first or a last level that is too low or too high. All levels are 1.
-fn show_level_ranges(file: &[u8], levels: &mut [u8], need: usize)
-    requires { ⌜ need ≤ 900 ⌝ }
-{
-    show_first(b"first level 0", file, levels, 0, need);
-    show_last(b"last level 0", file, levels, 0, need);
-    show_first(b"first level 9", file, levels, 9, need);
-    show_last(b"last level 9", file, levels, 9, need);
+// A first or a last level that is too high.
+fn show_high_levels(file: &[u8], right: Given) {
+    let mut given = right;
+    given.level = 9;
+    given.table = FIRST;
+    call(b"first level 9", file, given);
+    given.table = LAST;
+    call(b"last level 9", file, given);
 }
 
 // One buffer is a word short.
-fn show_short_buffers(file: &[u8], levels: &[u8], need: usize)
-    requires { ⌜ (1 ≤ need) × (need ≤ 900) ⌝ }
+fn show_short_buffers(file: &[u8], right: Given)
+    requires { ⌜ 1 ≤ right .output ⌝ }
 {
-    call(b"short arena", file, levels, words(16_383, 16_384, need));
-    call(b"short scratch", file, levels, words(16_384, 16_383, need));
-    call(b"short output", file, levels, enough(need - 1));
+    let mut given = right;
+    given.arena = 16_383;
+    call(b"short arena", file, given);
+    given = right;
+    given.scratch = 16_383;
+    call(b"short scratch", file, given);
+    given = right;
+    given.output = right.output - 1;
+    call(b"short output", file, given);
 }
 
 // One buffer is empty.
-fn show_empty_buffers(file: &[u8], levels: &[u8], need: usize)
-    requires { ⌜ need ≤ 900 ⌝ }
-{
-    call(b"no arena", file, levels, words(0, 16_384, need));
-    call(b"no scratch", file, levels, words(16_384, 0, need));
-    call(b"no output", file, levels, enough(0));
+fn show_empty_buffers(file: &[u8], right: Given) {
+    let mut given = right;
+    given.arena = 0;
+    call(b"no arena", file, given);
+    given = right;
+    given.scratch = 0;
+    call(b"no scratch", file, given);
+    given = right;
+    given.output = 0;
+    call(b"no output", file, given);
 }
 
-// One buffer is too short.
-fn show_buffers(file: &[u8], levels: &[u8], need: usize)
-    requires { ⌜ (1 ≤ need) × (need ≤ 900) ⌝ }
+// More than one thing is wrong: all buffers are short, and a level, or the levels and their number too.
+fn show_fails(file: &[u8], right: Given)
+    requires { ⌜ (right .levels ≤ 512) × (1 ≤ right .output) ⌝ }
 {
-    show_short_buffers(file, levels, need);
-    show_empty_buffers(file, levels, need);
+    let mut short = right;
+    short.arena = 16_383;
+    short.scratch = 16_383;
+    short.output = right.output - 1;
+    let mut all = short;
+    all.levels = right.levels + 1;
+    all.level = 9;
+    call(b"14 to 18 fail", file, all);
+    let mut last = short;
+    last.table = LAST;
+    last.level = 9;
+    call(b"15 to 18 fail", file, last);
+    call(b"17 and 18 fail", file, short);
 }
 
-// A call with nothing right but the file. levels has one level more than the face.
-fn show_all_fail(file: &[u8], levels: &mut [u8], need: usize)
-    requires { ⌜ (1 ≤ need) × (need ≤ 900) ⌝ }
+// The calls that are refused for their levels.
+fn show_levels(file: &[u8], right: Given)
+    requires { ⌜ (1 ≤ right .levels) × (right .levels ≤ 512) ⌝ }
 {
-    put_all(levels, 9);
-    call(
-        b"14 to 18 fail",
-        file,
-        levels,
-        words(16_383, 16_383, need - 1),
-    );
+    show_level_counts(file, right);
+    show_low_levels(file, right);
+    show_high_levels(file, right);
 }
 
-// Calls with as many levels as sizes and short buffers: with a wrong level, and with all levels right.
-fn show_later_fail(file: &[u8], levels: &mut [u8], need: usize)
-    requires { ⌜ (1 ≤ need) × (need ≤ 900) ⌝ }
+// All calls on a face, of which the right one is given.
+fn show_given(file: &[u8], right: Given)
+    requires { ⌜ (1 ≤ right .levels) × (right .levels ≤ 512) × (1 ≤ right .output) × (right .output ≤ 900) ⌝ }
 {
-    put_last(levels, 9);
-    call(
-        b"15 to 18 fail",
-        file,
-        levels,
-        words(16_383, 16_383, need - 1),
-    );
-    put_last(levels, 1);
-    call(
-        b"17 and 18 fail",
-        file,
-        levels,
-        words(16_383, 16_383, need - 1),
-    );
+    show_tables(file, right);
+    show_levels(file, right);
+    show_short_buffers(file, right);
+    show_empty_buffers(file, right);
+    show_fails(file, right);
 }
 
-// The calls that are refused, on a face of so many sizes that needs so many words of output.
-fn show_refusals(file: &[u8], sizes: usize, need: usize)
-    requires { ⌜ (1 ≤ sizes) × (sizes ≤ 512) × (1 ≤ need) × (need ≤ 900) ⌝ }
-{
-    let ones = levels_room();
-    show_level_counts(file, &ones, sizes, need);
-    let mut ranges = levels_room();
-    show_level_ranges(file, &mut ranges[..sizes], need);
-    show_buffers(file, &ones[..sizes], need);
-    let more = sizes + 1;
-    let mut all = levels_room();
-    show_all_fail(file, &mut all[..more], need);
-    let mut later = levels_room();
-    show_later_fail(file, &mut later[..sizes], need);
-}
-
-// The calls on a face of so many sizes that needs so many words of output.
-fn show_sized(file: &[u8], sizes: usize, need: usize)
-    requires { ⌜ (1 ≤ sizes) × (sizes ≤ 512) × (1 ≤ need) × (need ≤ 900) ⌝ }
-{
-    let mut levels = levels_room();
-    show_tables(file, &mut levels[..sizes], need);
-    show_refusals(file, sizes, need);
-}
-
-// The calls on a file that the reader takes.
+// The calls on a file that the reader takes. A face has 1 to 512 sizes, as many gauges or more, and a list of at most
+// 449 items.
 pub fn show_taken(file: &[u8], gauges: usize, sizes: usize) {
-    if sizes > 512 {
-        put(b"too many sizes\n");
-        return;
-    }
-    if sizes < gauges {
-        put(b"fewer sizes than gauges\n");
-        return;
-    }
-    let items = sizes - gauges + 1;
-    if items > 449 {
-        put(b"too many items\n");
-        return;
-    }
-    if sizes < 1 {
-        put(b"no sizes\n");
-        return;
-    }
-    show_sized(file, sizes, 2 * items);
+    let levels = within(sizes, 1, 512);
+    let items = levels - within(gauges, 1, levels) + 1;
+    show_given(file, right(levels, 2 * within(items, 1, 449)));
 }
 
-// The calls on a file that the reader refuses: with buffers that are right, and with all that can be wrong.
+// The calls on a file that the reader refuses: with levels and buffers that are right, and with all that can be wrong.
 pub fn show_refused(file: &[u8]) {
-    call(b"1 level", file, b"\x01", enough(4));
-    call(b"all fail", file, b"\x09\x09", words(16_383, 16_383, 0));
+    call(b"1 level", file, right(1, 4));
+    let mut wrong = right(2, 0);
+    wrong.level = 9;
+    wrong.arena = 16_383;
+    wrong.scratch = 16_383;
+    call(b"all fail", file, wrong);
 }

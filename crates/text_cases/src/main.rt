@@ -1,11 +1,8 @@
 // Prints, for each file that an argument names, its name and what `faces` prints for it.
 ghost use mathlib.Core.Path.{_≡_};
 ghost use lib.ListN.{length};
-use libc::STDOUT_FILENO;
-
-fn put(text: &[u8]) {
-    io::write_all(STDOUT_FILENO, text);
-}
+use showing::file::read_file;
+use showing::print::put;
 
 // Room for every text. The `ensures` gives only the length, which lending needs.
 fn text_room() -> [u8; report::TEXT]
@@ -25,15 +22,12 @@ fn show(name: &[u8], file: &[u8]) {
 fn show_argument(argument: usize) {
     let mut path = io::buffer();
     let length = os::arg(argument, &mut path);
-    let fd = os::open_read(&path[..length]);
-    if fd < 0 {
-        os::fail(&path[..length]);
-        return;
-    }
     let mut room = io::large_buffer();
-    let got = io::read_full(fd, &mut room);
-    libc::close(fd);
-    show(&path[..length], &room[..got]);
+    let found = read_file(&path[..length], &mut room);
+    let bytes = found.length;
+    if found.opened {
+        show(&path[..length], &room[..bytes]);
+    }
 }
 
 fn main() {

@@ -9,32 +9,17 @@ use Rattle.fit_cases.proofs.show_word.Tie as tie
 name-length-requires : tie.Need-name-length-requires
 name-length-requires c κs = search needs
 
-slice-aggregate-open-read : tie.Need-slice-aggregate-open-read
-slice-aggregate-open-read c = sym (length-take-le _ _ (omega arith))
-
-open-read-requires : tie.Need-open-read-requires
-open-read-requires c κs = search needs
-
-slice-aggregate-fail : tie.Need-slice-aggregate-fail
-slice-aggregate-fail c = sym (length-take-le _ _ (omega arith))
-
-fail-requires : tie.Need-fail-requires
-fail-requires c κs = search needs
-
-returns : tie.Need-returns
-returns c = search needs
-
 large-buffer-requires : tie.Need-large-buffer-requires
 large-buffer-requires c κs = search needs
 
-slice-aggregate-read-full : tie.Need-slice-aggregate-read-full
-slice-aggregate-read-full c = search needs
+slice-aggregate-read-file : tie.Need-slice-aggregate-read-file
+slice-aggregate-read-file c = sym (length-take-le _ _ (omega arith))
 
-read-full-requires : tie.Need-read-full-requires
-read-full-requires c κs = search needs
+slice-aggregate-read-file-2 : tie.Need-slice-aggregate-read-file-2
+slice-aggregate-read-file-2 c = search needs
 
-close-requires : tie.Need-close-requires
-close-requires c κs = search needs
+read-file-requires : tie.Need-read-file-requires
+read-file-requires c κs = search needs
 
 slice-aggregate-show : tie.Need-slice-aggregate-show
 slice-aggregate-show c = sym (length-take-le _ _ (omega arith))
@@ -57,6 +42,9 @@ slice-aggregate-show-2 c = search needs
 show-requires : tie.Need-show-requires
 show-requires c κs = search needs
 
+returns : tie.Need-returns
+returns c = search needs
+
 returns-2 : tie.Need-returns-2
 returns-2 c = search needs
 
@@ -65,15 +53,10 @@ show-word-spec =
     tie.close
     (tie.spec
     name-length-requires
-    slice-aggregate-open-read
-    open-read-requires
-    slice-aggregate-fail
-    fail-requires
-    returns
     large-buffer-requires
-    slice-aggregate-read-full
-    read-full-requires
-    close-requires
+    slice-aggregate-read-file
+    slice-aggregate-read-file-2
+    read-file-requires
     slice-aggregate-show
     sub-show
     part-show-start
@@ -81,4 +64,5 @@ show-word-spec =
     array-share-prefix-room
     slice-aggregate-show-2
     show-requires
+    returns
     returns-2)

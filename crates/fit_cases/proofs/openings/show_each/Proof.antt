@@ -7,10 +7,10 @@ use Rattle.fit_cases.proofs.openings.show_each.Statement.{statement}
 use Rattle.fit_cases.proofs.openings.show_each.Tie as tie
 
 abbrev Inv-loop : tie.InvT-loop
-Inv-loop wanted file levels need at₀ at = at ≤ length wanted
+Inv-loop wanted file own at₀ at = at ≤ length wanted
 
 abbrev μ-loop : tie.MeasureT-loop
-μ-loop wanted file levels need at₀ at = length wanted - at
+μ-loop wanted file own at₀ at = length wanted - at
 
 loop-holds : tie.Need-loop-holds Inv-loop μ-loop
 loop-holds c = search needs
@@ -27,8 +27,8 @@ after-sign-requires c κs = search needs
 number-at-requires-2 : tie.Need-number-at-requires-2 Inv-loop μ-loop
 number-at-requires-2 c κs = search needs
 
-call-requires : tie.Need-call-requires Inv-loop μ-loop
-call-requires c κs = search needs
+show-opening-requires : tie.Need-show-opening-requires Inv-loop μ-loop
+show-opening-requires c κs = search needs
 
 loop-less : tie.Need-loop-less Inv-loop μ-loop
 loop-less c = search needs
@@ -50,7 +50,7 @@ show-each-spec =
     number-at-requires
     after-sign-requires
     number-at-requires-2
-    call-requires
+    show-opening-requires
     loop-less
     loop-again
     returns)
