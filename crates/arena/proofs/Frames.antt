@@ -1,18 +1,18 @@
 -- What a list of records is after words elsewhere change: the same links, chain and true p.
 -- Links read levels and forwards alone, and true p levels, p and adjusts alone, so each follows by recursion on the list.
 use mathlib.Core.Path.{_≡_, refl, sym, ap, ap₂, _∙_}
-use mathlib.Core.Bool.{Bool, true, false, cond}
+use mathlib.Core.Bool.{Bool, cond}
 use mathlib.Core.List.{List, [], _∷_, map}
-use Prim.Native.Nat.{ℕ, zero, suc, _+_, _%_, _^_, _≤_, _<_}
+use Prim.Native.Nat.{ℕ, _+_, _%_, _^_, _≤_, _<_}
 use native.Mathlib.Omega.{arith}
 use lib.ListN.{length}
-use lib.Dec.{leb, ltb}
-use borrow.Author.Tests.{lt-ltb, le-ltb, lt-leb}
+use lib.Dec.{ltb}
+use borrow.Author.Tests.{lt-ltb, le-ltb}
 use Rattle.arena.specs.Arena.{level, pWord, adjust}
 use Rattle.arena.specs.Lazy.{nextWith, lastWith, sumFrom}
 use Rattle.arena.specs.Chain.{All, Member, Chain, Linked, pUnder, after, trues, Same, Shape, Value}
 use Rattle.arena.specs.Building.{Built}
-use Rattle.arena.proofs.Cases.{lt-or-ge}
+use Rattle.arena.proofs.SumLaws.{sum-frame}
 
 pub all-map : {P Q : ℕ → Type 0} (rs : List ℕ) → ((x : ℕ) → P x → Q x) → All P rs → All Q rs
 all-map [] f p = tt
@@ -117,27 +117,6 @@ built-frame a b h rs long s t built =
       linked = linked-frame a b h rs long (same-shape a b h s) (all-map rs (same-shape a b) t) (built .linked);
       still = λ k p. s .at (11 + k) (omega arith) ∙ built .still k p;
     }
-
--- A sum over the links from l up to n reads its function there alone.
-pub sum-agree : (f g : ℕ → ℕ) (l n : ℕ) → ((k : ℕ) → l ≤ k → k < n → g k ≡ f k) → sumFrom g l n ≡ sumFrom f l n
-unfolding sumFrom
-sum-agree f g l zero e = refl
-sum-agree f g l (suc n) e =
-    lt-or-ge n l (λ p. ap₂ _+_ (sum-agree f g l n (λ k low high. e k low (omega arith))) (simp (lt-leb l n p)))
-    (λ p.
-    ap₂ _+_ (sum-agree f g l n (λ k low high. e k low (omega arith))) (ap (λ (x : ℕ). cond (leb l n) x 0) (e n p (omega arith))))
-
-pub sum-frame : (f g : ℕ → ℕ) (l n : ℕ) → ((k : ℕ) → k < n → g k ≡ f k) → sumFrom g l n ≡ sumFrom f l n
-sum-frame f g l n e = sum-agree f g l n (λ k low high. e k high)
-
-pub sum-zero : (l n : ℕ) → sumFrom (λ k. 0) l n ≡ 0
-unfolding sumFrom
-sum-zero l zero = refl
-sum-zero l (suc n) = ap₂ (λ (x : ℕ) (y : ℕ). x + y) (sum-zero l n) (none (leb l n))
-  where
-    none : (t : Bool) → _≡_ {A = ℕ} (cond t 0 0) 0
-    none true = refl
-    none false = refl
 
 -- The sums after a record: its own adjusts at the links that it has, and above them those that entered.
 module _ (a : List ℕ) (f : ℕ → ℕ) (r k : ℕ) where

@@ -1,10 +1,11 @@
 pub mod Cases
 pub mod PutLaws
+pub mod SumLaws
 pub mod Frames
 pub mod HookLaws
 pub mod PrependLaws
 pub mod ClearLaws
-pub mod SumLaws
+pub mod Summing
 pub mod Swaps
 pub mod Turns
 pub mod Walking

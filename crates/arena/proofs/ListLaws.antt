@@ -1,14 +1,15 @@
--- Laws of the next and the last record with a link, in an arena that stays as it is, and of what holds of all records of two lists, one after the other.
+-- Laws of the next and the last record with a link and of the items held, in an arena that stays as it is, and of what holds of all records of two lists, one after the other.
 -- Each goes by the records of the list in turn: a record has the link, and is then the last one so far, or has it not, and then changes nothing.
 use mathlib.Core.Path.{_≡_, refl, sym, ap, subst, _∙_}
 use mathlib.Core.Bool.{Bool, true, false, cond}
 use mathlib.Core.List.{List, [], _∷_, _++_}
-use Prim.Native.Nat.{ℕ, _≤_, _<_}
+use Prim.Native.Nat.{ℕ, suc, _≤_, _<_}
 use native.Mathlib.Omega.{arith}
+use lib.ListN.{length}
 use lib.Dec.{ltb}
 use borrow.Author.Tests.{lt-ltb, le-ltb}
 use Rattle.arena.specs.Arena.{level, forward, adjust}
-use Rattle.arena.specs.Lazy.{nextWith, lastWith}
+use Rattle.arena.specs.Lazy.{nextWith, lastWith, held}
 use Rattle.arena.specs.Chain.{All, Away, Chain, after, leaving}
 use Rattle.arena.proofs.Cases.{lt-or-ge}
 use Rattle.arena.proofs.Frames.{all-map, next-here, next-past}
@@ -33,6 +34,11 @@ module _ (a : List ℕ) (k : ℕ) where
   last-append h (r ∷ xs) ys = last-append (cond (ltb k (level a r)) r h) xs ys
 
   -- The next record with link k, in two lists one after the other.
+  -- The last record with the link, after one more record.
+  pub last-more : (h : ℕ) (xs : List ℕ) (r : ℕ) → lastWith a k h (xs ++ (r ∷ [])) ≡ cond (ltb k (level a r)) r (lastWith a k h xs)
+  unfolding lastWith
+  last-more h xs r = last-append h xs (r ∷ [])
+
   pub next-front : (xs ys : List ℕ) → 1 ≤ nextWith a k xs → nextWith a k (xs ++ ys) ≡ nextWith a k xs
   unfolding nextWith
   next-front [] ys h = absurd (omega arith)
@@ -129,6 +135,12 @@ module _ (a : List ℕ) (k : ℕ) where
       either : (t : Bool) → cond t (adjust a r k) (acc k) ≡ adjust a (cond t r h) k
       either true = refl
       either false = e
+
+-- An arena holds one item for each record.
+pub held-length : (a : List ℕ) (h : ℕ) (before rs : List ℕ) → length (held a h before rs) ≡ length rs
+unfolding held
+held-length a h before [] = refl
+held-length a h before (r ∷ rs) = ap suc (held-length a h (before ++ (r ∷ [])) rs)
 
 -- The records before the next one with link k, and those after it.
 pub record Jump (a : List ℕ) (k : ℕ) (rs : List ℕ) : Type 0 where

@@ -11,7 +11,8 @@ use Rattle.arena.specs.Lazy.{nextWith}
 use Rattle.arena.specs.Chain.{All, Member, Linked, pUnder, after, trues, Same}
 use Rattle.arena.specs.Building.{hooked, Built, Fresh, Prepended}
 use Rattle.arena.proofs.Cases.{lt-or-ge}
-use Rattle.arena.proofs.Frames.{all-map, all-both, same-shape, same-value, next-here, next-past, next-frame, chain-frame, sum-zero, trues-frame}
+use Rattle.arena.proofs.SumLaws.{sum-zero}
+use Rattle.arena.proofs.Frames.{all-map, all-both, same-shape, same-value, next-here, next-past, next-frame, chain-frame, trues-frame}
 use Rattle.arena.proofs.HookLaws.{Hooking, hooking}
 
 module _ (a : List ℕ) (h r : ℕ) (rs b : List ℕ) (built : Built a h rs) (fresh : Fresh a h r rs) (s : Hooking (level a r) a h r b) where

@@ -1,7 +1,7 @@
 -- The sizes that a gauge's questions take: as many as its count says, within the limits and strictly ordered, and with the very bytes that were read.
 -- Each size passed check 8 and, after the first, check 9 against the size before it, so its order against all earlier ones follows by steps.
 use mathlib.Core.Path.{_≡_, refl, ap}
-use mathlib.Core.Bool.{true}
+use mathlib.Core.Bool.{true, and-eq-true-iff}
 use mathlib.Core.List.{List, [], _∷_, List·Memᴰ, List·Memᴰ·not-nil, List·Memᴰ·cases-cons}
 use mathlib.Core.Logic.{⊎-elim}
 use Prim.Native.Nat.{ℕ, zero, suc, _≤_, _<_}
@@ -14,11 +14,11 @@ use Rattle.checks.proofs.Answers.{same-taken, ask-taken, next-taken}
 use Rattle.slicing.specs.Item.{Item, height, width}
 use Rattle.slicing.specs.Good.{Limited, Ordered, GoodGauge}
 use Rattle.facefile.specs.Format.{within, sizeAt, limited, ordered, sizesAfter, sizesFrom}
-use Rattle.facefile.proofs.Took.{both-true, within-true}
+use Rattle.facefile.proofs.Took.{within-true}
 
 limited-true : (z : Item) → limited z ≡ true → Limited z
 limited-true z e =
-    let both = both-true (within 1 1_000 (height z)) (within 1 1_000 (width z)) e in
+    let both = and-eq-true-iff (within 1 1_000 (height z)) (within 1 1_000 (width z)) .0 e in
     let h = within-true 1 1_000 (height z) (both .0) in
     let w = within-true 1 1_000 (width z) (both .1) in
     record { high = h .0; wide = w .0; low = h .1; narrow = w .1 }
@@ -30,7 +30,7 @@ pub record After (y z : Item) : Type 0 where
 
 ordered-true : (y z : Item) → ordered y z ≡ true → After y z
 ordered-true y z e =
-    let both = both-true (ltb (height z) (height y)) (ltb (width y) (width z)) e in
+    let both = and-eq-true-iff (ltb (height z) (height y)) (ltb (width y) (width z)) .0 e in
     record { lower = ltb-true (height z) (height y) (both .0); wider = ltb-true (width y) (width z) (both .1) }
 
 -- What is known of the sizes after y.

@@ -3,8 +3,10 @@ pub mod GoodSizes
 pub mod Stacks
 pub mod Taken
 pub mod Refused
+pub mod SizesIn
 pub mod SizeBytes
 pub mod Walk
+pub mod WalkTurns
 pub mod SizeChecks
 pub mod Entries
 pub mod Reading
@@ -15,4 +17,3 @@ pub mod Written
 pub mod Example
 pub mod PartArray
 pub mod Across
-pub mod SizesIn

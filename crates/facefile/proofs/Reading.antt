@@ -1,7 +1,7 @@
 -- What the reader answers of a whole file is what the definition says: laws for the header, for the loop over the entries and for the end.
 -- The loop keeps a state of the definition that its cursor stands for, from which the entries left give what all of them give.
 use mathlib.Core.Path.{_≡_, refl, sym, ap, subst, _∙_}
-use mathlib.Core.Bool.{Bool, true, false, not, _&&_}
+use mathlib.Core.Bool.{Bool, true, false, not, _&&_, and-eq-true-iff}
 use mathlib.Core.List.{List, [], _∷_}
 use Prim.Native.Nat.{ℕ, suc, _+_, _-_, _≤_, _<_}
 use native.Mathlib.Omega.{arith}
@@ -19,7 +19,6 @@ use Rattle.facefile.specs.declared.Step.the-variants.{Stop, Next}
 use Rattle.facefile.specs.Format.{State, field, within, marked, header, start, entry, entries, onePart, atEnd, faceOf}
 use Rattle.facefile.specs.Summary.{refusedFace, summary}
 use Rattle.facefile.specs.Tracking.{flat, Fair, Tracks, Follows, Does, Ends}
-use Rattle.facefile.proofs.Took.{both-true}
 use Rattle.facefile.proofs.Taken.{header-taken}
 
 -- The first three bytes are `FCE` exactly where the definition's test says so.
@@ -31,8 +30,8 @@ marked-true [] h e = absurd (omega arith)
 marked-true (a ∷ []) h e = absurd (omega arith)
 marked-true (a ∷ b ∷ []) h e = absurd (omega arith)
 marked-true (a ∷ b ∷ c ∷ s) h e =
-    let x = both-true (eqb a 0x46) (eqb b 0x43 && eqb c 0x45) e in
-    let y = both-true (eqb b 0x43) (eqb c 0x45) (x .1) in
+    let x = and-eq-true-iff (eqb a 0x46) (eqb b 0x43 && eqb c 0x45) .0 e in
+    let y = and-eq-true-iff (eqb b 0x43) (eqb c 0x45) .0 (x .1) in
     rw (eqb-true a 0x46 (x .0), eqb-true b 0x43 (y .0), eqb-true c 0x45 (y .1))
 
 is-marked : (s : List ℕ) → 7 ≤ length s → take 3 s ≡ fce → marked s ≡ true

@@ -16,6 +16,7 @@ use Rattle.facefile.proofs.Took.{state}
 use Rattle.facefile.proofs.Stacks.{join-flat, reads-flat, gauges-join}
 use Rattle.facefile.proofs.SizeBytes.{Bytes, bytes-drop, sizes-bytes}
 use Rattle.facefile.proofs.Walk.{Walk, walk-start, walk-end, GaugeTurn, gauge-turn, join-turn}
+use Rattle.facefile.proofs.WalkTurns.{turn-inside, turn-walk}
 
 pub record Seeking (file : List ℕ) (gauge at left : ℕ) : Type 0 where
   pub tree : Tree
@@ -59,7 +60,7 @@ module _ (file : List ℕ) (gauge at left : ℕ) (k : Seeking file gauge at left
   turn e = gauge-turn file (k .tree) at (k .state) (k .walk) more e
 
   pub seek-inside : getD file at 0 ≡ 1 → at + 2 + 4 * getD file (at + 1) 0 ≤ length file
-  seek-inside e = let t = turn e in omega (arith, t .count-is, t .fits)
+  seek-inside e = turn-inside file (k .tree) at (k .state) (turn e)
 
   -- The gauges of the tree are those passed, this one, and some more.
   placed : (e : getD file at 0 ≡ 1) → (ys : List (List Item)) × (gaugesOf (k .tree) ≡ flat gaugesOf (k .state .stack) ++ (turn e .sizes ∷ ys))
@@ -94,14 +95,13 @@ module _ (file : List ℕ) (gauge at left : ℕ) (k : Seeking file gauge at left
   pub seek-next : (n : ℕ) → getD file at 0 ≡ 1 → 1 < left → n ≡ getD file (at + 1) 0 → Seeking file gauge (at + 2 + 4 * n) (left - 1)
   seek-next n e h m =
       let t = turn e in
-      let same : n ≡ t .count = m ∙ t .count-is in
       let passed = ap (λ (l : List Tree). length (flat gaugesOf l)) (t .stack) ∙ length-append (flat gaugesOf (k .state .stack)) (t .sizes ∷ []) in
       let count = k .count in
       record {
         tree = k .tree;
         face = k .face;
         state = t .next;
-        walk = rw same (t .walk);
+        walk = turn-walk file (k .tree) at (k .state) t n m;
         count = omega arith;
         some = omega arith;
       }

@@ -1,16 +1,17 @@
 -- The bytes that a gauge's sizes were read from are their heights and widths, four bytes a size.
 -- A 16-bit field of two bytes gives them back by division and remainder, since each is below 256.
-use mathlib.Core.Path.{_≡_, refl, sym, _∙_}
+use mathlib.Core.Path.{_≡_, refl, sym, ap, _∙_}
 use mathlib.Core.List.{List, [], _∷_}
 use Prim.Native.Nat.{ℕ, zero, suc, _+_, _*_, _/_, _%_, _≤_, _<_}
 use native.Mathlib.Omega.{arith}
 use lib.ListN.{length, getD, take, drop, length-drop}
 use lib.Seq.{take-add, getD-drop}
 use Rattle.checks.specs.Answer.{taken}
-use Rattle.checks.proofs.Answers.{same-taken, ask-taken, next-taken}
 use Rattle.slicing.specs.Item.{Item}
-use Rattle.facefile.specs.Format.{limited, ordered, sizeAt, sizesAfter, sizesFrom}
+use Rattle.facefile.specs.Format.{sizeAt, sizesFrom}
 use Rattle.facefile.specs.Gauge.{sizeBytes}
+use Rattle.facefile.specs.Sizes.{sizesIn}
+use Rattle.facefile.proofs.SizesIn.{from-in}
 
 -- Every element is a byte.
 abbrev pub Bytes : List ℕ → Type 0
@@ -50,23 +51,11 @@ sizes-more : (k : ℕ) (s : List ℕ) (zs : List Item) → Bytes s → 4 * suc k
 sizes-more k s zs b h e =
     rw (four-more k, take-add 4 (4 * k) s, e, one-size s b (omega arith))
 
-after-bytes : (y : Item) (k : ℕ) (s : List ℕ) (zs : List Item) → Bytes s → 4 * k ≤ length s → sizesAfter y k s ≡ taken zs → take (4 * k) s ≡ sizeBytes zs
-unfolding sizesAfter
-after-bytes y zero s zs b h e = rw (← same-taken [] zs e)
-after-bytes y (suc k) s zs b h e =
-    let limits = ask-taken (limited (sizeAt s)) _ _ zs e in
-    let order = ask-taken (ordered y (sizeAt s)) _ _ zs (limits .1) in
-    let more = next-taken (sizesAfter (sizeAt s) k (drop 4 s)) (λ xs. taken (sizeAt s ∷ xs)) zs (order .1) in
-    rw (← same-taken (sizeAt s ∷ more .0) zs (more .2))
-    (sizes-more k s (more .0) b h
-    (after-bytes (sizeAt s) k (drop 4 s) (more .0) (bytes-drop 4 s b) (omega (arith, length-drop 4 s)) (more .1)))
+in-bytes : (count : ℕ) (s : List ℕ) → Bytes s → 4 * count ≤ length s → take (4 * count) s ≡ sizeBytes (sizesIn count s)
+unfolding sizesIn
+in-bytes zero s b h = refl
+in-bytes (suc k) s b h =
+    sizes-more k s (sizesIn k (drop 4 s)) b h (in-bytes k (drop 4 s) (bytes-drop 4 s b) (omega (arith, length-drop 4 s)))
 
 pub sizes-bytes : (count : ℕ) (s : List ℕ) (zs : List Item) → Bytes s → 4 * count ≤ length s → sizesFrom count s ≡ taken zs → take (4 * count) s ≡ sizeBytes zs
-unfolding sizesFrom
-sizes-bytes zero s zs b h e = rw (← same-taken [] zs e)
-sizes-bytes (suc k) s zs b h e =
-    let limits = ask-taken (limited (sizeAt s)) _ _ zs e in
-    let more = next-taken (sizesAfter (sizeAt s) k (drop 4 s)) (λ xs. taken (sizeAt s ∷ xs)) zs (limits .1) in
-    rw (← same-taken (sizeAt s ∷ more .0) zs (more .2))
-    (sizes-more k s (more .0) b h
-    (after-bytes (sizeAt s) k (drop 4 s) (more .0) (bytes-drop 4 s b) (omega (arith, length-drop 4 s)) (more .1)))
+sizes-bytes count s zs b h e = in-bytes count s b h ∙ ap sizeBytes (sym (from-in count s zs e))

@@ -1,7 +1,7 @@
 -- A taken run of entries as a relation: which bytes each entry had, and what it did to the stack. Every law of taken files goes by cases on it.
 -- It holds because a chain of questions is taken only where each was answered "yes".
 use mathlib.Core.Path.{_≡_, refl, sym, subst}
-use mathlib.Core.Bool.{Bool, true, false, cond, _&&_}
+use mathlib.Core.Bool.{Bool, true, false, cond, and-eq-true-iff}
 use mathlib.Core.List.{List, [], _∷_}
 use Prim.Native.Nat.{ℕ, zero, suc, _+_, _*_, _≤_, _<_}
 use lib.ListN.{length, drop}
@@ -32,14 +32,9 @@ pub data Reads : ℕ → State → State → Type 0 where
   reads-none : (s : State) → Reads zero s s
   reads-more : (k : ℕ) (s t u : State) → Took s t → Reads k t u → Reads (suc k) s u
 
-pub both-true : (a b : Bool) → (a && b) ≡ true → (a ≡ true) × (b ≡ true)
-both-true true b e = (refl, e)
-both-true false true e = (e, refl)
-both-true false false e = (e, e)
-
 pub within-true : (low high x : ℕ) → within low high x ≡ true → (low ≤ x) × (x ≤ high)
 within-true low high x e =
-    let both = both-true (leb low x) (leb x high) e in (leb-true low x (both .0), leb-true x high (both .1))
+    let both = and-eq-true-iff (leb low x) (leb x high) .0 e in (leb-true low x (both .0), leb-true x high (both .1))
 
 sizes-took : (count : ℕ) (bytes : List ℕ) (parts : List Tree) (g : ℕ) (s : State) → g < 64 → gaugeSizes count (state bytes parts g) ≡ taken s → Took (state (0x01 ∷ count ∷ bytes) parts g) s
 unfolding gaugeSizes

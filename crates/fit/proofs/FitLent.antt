@@ -1,7 +1,7 @@
 -- Checks 14 to 18 of the fit call as the code asks them: each way out has the number that the definition has there, and what is taken has passed them all.
 -- The questions are asked one after the other, in the definition's order.
 use mathlib.Core.Path.{_≡_, sym, _∙_}
-use mathlib.Core.Bool.{Bool, true, false, _&&_, not}
+use mathlib.Core.Bool.{Bool, true, false, _&&_, not, and-eq-true-iff}
 use mathlib.Core.List.{List}
 use Prim.Native.Nat.{ℕ, _*_, _≤_, _<_}
 use lib.Dec.{leb, eqb}
@@ -12,7 +12,6 @@ use Rattle.checks.specs.Answer.{taken, number}
 use Rattle.checks.proofs.Answers.{ask-taken}
 use Rattle.slicing.specs.Layout.{outline}
 use Rattle.facefile.specs.Format.{within}
-use Rattle.facefile.proofs.Took.{both-true}
 use Rattle.shapes.specs.Listing.{levelsInRange}
 use Rattle.fit.specs.Fitting.{fitLent}
 
@@ -91,7 +90,7 @@ module _ (n g : ℕ) (levels : List ℕ) (height width arena scratch output : �
       let opening = ask-taken (within 1 64_000 height && within 1 64_000 width) Opening _ tt (range .1) in
       let buffers = ask-taken (leb 16_384 arena && leb 16_384 scratch) Buffers _ tt (opening .1) in
       let out = ask-taken (leb (5 * g) output) Output _ tt (buffers .1) in
-      let both = both-true (leb 16_384 arena) (leb 16_384 scratch) (buffers .0) in
+      let both = and-eq-true-iff (leb 16_384 arena) (leb 16_384 scratch) .0 (buffers .0) in
       record {
         as-many = eqb-true (length levels) n (count .0);
         in-range = range .0;

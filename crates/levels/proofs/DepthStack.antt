@@ -15,6 +15,7 @@ use Rattle.facefile.specs.Tracking.{flat}
 use Rattle.facefile.proofs.Took.{Cut, cut-beside, cut-stacked}
 use Rattle.facefile.proofs.PartArray.{Held, held-push, push-held, stack-few}
 use Rattle.facefile.proofs.Walk.{Walk, walk-start, walk-end, GaugeTurn, gauge-turn, JoinTurn, join-turn}
+use Rattle.facefile.proofs.WalkTurns.{turn-inside}
 use Rattle.levels.specs.Deep.{Deep, Room, joinedAt}
 
 -- f of a join is one more than g of f of its parts.
@@ -93,7 +94,7 @@ module _ (file least most : List ℕ) (at parts : ℕ) (k : Measured file least 
     room = let b = stack-few file (k .tree) at (k .state) (k .walk) in let c = k .count in let f = turn .few in omega arith
 
     pub gauge-inside : at + 2 + 4 * getD file (at + 1) 0 ≤ length file
-    gauge-inside = omega (arith, turn .count-is, turn .fits)
+    gauge-inside = turn-inside file (k .tree) at (k .state) turn
 
     pub gauge-room : (parts < length least) × (parts < length most)
     gauge-room = let r = room in let l = k .least-long in let m = k .most-long in (omega arith, omega arith)

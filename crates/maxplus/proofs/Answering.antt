@@ -1,7 +1,7 @@
 -- What the reading call answers, by the length of the arena and the list that it holds: a law for each way out.
 -- The call asks the checks in the definition's order, and an arena holds a list just where the walk from the head can be followed to its end.
 use mathlib.Core.Path.{_≡_, refl, ap, _∙_}
-use mathlib.Core.Bool.{Bool, true, false, cond, _&&_}
+use mathlib.Core.Bool.{Bool, true, false, cond, _&&_, and-eq-true-iff}
 use mathlib.Core.List.{List, [], _∷_}
 use Prim.Native.Nat.{ℕ, zero, suc, _-_, _≤_, _<_}
 use lib.Dec.{leb, eqb}
@@ -17,7 +17,7 @@ use Rattle.arena.specs.Arena.{level, forward}
 use Rattle.arena.specs.Lazy.{lastWith, held, walk, linksRight, linked, falling, lazyList}
 use Rattle.maxplus.specs.Read.{readItem, reading}
 use Rattle.maxplus.specs.Pass.{refusedReading, readAt}
-use Rattle.maxplus.proofs.Following.{both, each, links-each, links-all, Under, Rest}
+use Rattle.maxplus.proofs.Following.{each, links-each, links-all, Under, Rest}
 
 -- Every refusal of a list is by check 20.
 abbrev ByList : {A : Type 0} → Answer A → Type 0
@@ -59,8 +59,8 @@ module _ (a : List ℕ) (m p : ℕ) (head : level a 0 ≡ 8) where
       let one = ask-taken (eqb (level a 0) 8) LazyList (next (walk 512 a (forward a 0 0)) (judged a)) l e in
       let two = next-taken (walk 512 a (forward a 0 0)) (judged a) l (one .1) in
       let three = ask-taken (whole a (two .0)) LazyList (taken (held a 0 [] (two .0))) l (two .2) in
-      let first = both (linksRight a 0 (two .0) 8) (linked a (two .0) && falling (held a 0 [] (two .0))) (three .0) in
-      let second = both (linked a (two .0)) (falling (held a 0 [] (two .0))) (first .1) in (
+      let first = and-eq-true-iff (linksRight a 0 (two .0) 8) (linked a (two .0) && falling (held a 0 [] (two .0))) .0 (three .0) in
+      let second = and-eq-true-iff (linked a (two .0)) (falling (held a 0 [] (two .0))) .0 (first .1) in (
         two .0,
         record {
           walks = two .1;

@@ -1,7 +1,7 @@
 -- Check 20 one record at a time: what the records after those passed must be, and that the next record settles a part of it.
 -- The links due after the passed records are those that the rest of the list has first; a record settles the links that it has and makes its own due.
 use mathlib.Core.Path.{_≡_, refl, sym, ap, subst, _∙_}
-use mathlib.Core.Bool.{Bool, true, false, cond, _&&_}
+use mathlib.Core.Bool.{Bool, true, _&&_, and-eq-true-iff}
 use mathlib.Core.List.{List, [], _∷_, _++_}
 use Prim.Native.Nat.{ℕ, zero, suc, _+_, _≤_, _<_}
 use native.Mathlib.Omega.{arith}
@@ -15,22 +15,14 @@ use Rattle.arena.specs.Arena.{level, mWord, forward}
 use Rattle.arena.specs.Lazy.{nextWith, lastWith, trueP, held, walk, linksRight, linked, falling}
 use Rattle.arena.proofs.Cases.{lt-or-ge}
 use Rattle.arena.proofs.Frames.{next-here, next-past}
-use Rattle.arena.proofs.ListLaws.{last-append}
+use Rattle.arena.proofs.ListLaws.{last-more}
 use Rattle.maxplus.specs.Pass.{Follows}
 
--- Both of two tests.
-pub both : (x y : Bool) → (x && y) ≡ true → (x ≡ true) × (y ≡ true)
-both true y e = (refl, e)
-both false y e = absurd (let z : _≡_ {A = ℕ} 0 1 = cc in omega arith)
-
+-- Both of two tests hold where each does.
 pub each : (x y : Bool) → x ≡ true → y ≡ true → (x && y) ≡ true
-each x y e f = rw (e, f)
+each x y e f = and-eq-true-iff x y .1 (e, f)
 
--- The last record with a link, after one more record.
-last-more : (a : List ℕ) (k h : ℕ) (passed : List ℕ) (r : ℕ) → lastWith a k h (passed ++ (r ∷ [])) ≡ cond (ltb k (level a r)) r (lastWith a k h passed)
-unfolding lastWith
-last-more a k h passed r = last-append a k h passed (r ∷ [])
-
+-- The last record with a link, after one more record that has it, or has it not.
 pub last-here : (a : List ℕ) (k : ℕ) (passed : List ℕ) (r : ℕ) → k < level a r → lastWith a k 0 (passed ++ (r ∷ [])) ≡ r
 last-here a k passed r h = last-more a k 0 passed r ∙ rw (lt-ltb k (level a r) h)
 
@@ -42,7 +34,7 @@ pub links-each : (a : List ℕ) (r : ℕ) (rs : List ℕ) (n : ℕ) → linksRig
 unfolding linksRight
 links-each a r rs zero e k h = absurd (omega arith)
 links-each a r rs (suc n) e k h =
-    let t = both (linksRight a r rs n) (eqb (forward a r n) (nextWith a n rs)) e in
+    let t = and-eq-true-iff (linksRight a r rs n) (eqb (forward a r n) (nextWith a n rs)) .0 e in
     lt-or-ge k n (λ b. links-each a r rs n (t .0) k b)
     (λ b. let same : n ≡ k = omega arith in subst (λ (i : ℕ). forward a r i ≡ nextWith a i rs) same (eqb-true _ _ (t .1)))
 
@@ -105,8 +97,8 @@ falling-under : (x : Recorded) (l : List Recorded) (count : ℕ) → falling (x 
 unfolding falling
 falling-under x [] count e = (tt, refl)
 falling-under x (y ∷ l) count e =
-    let first = both (ltb (y .item .m) (x .item .m)) (ltb (x .item .p) (y .item .p) && falling (y ∷ l)) e in
-    let second = both (ltb (x .item .p) (y .item .p)) (falling (y ∷ l)) (first .1) in
+    let first = and-eq-true-iff (ltb (y .item .m) (x .item .m)) (ltb (x .item .p) (y .item .p) && falling (y ∷ l)) .0 e in
+    let second = and-eq-true-iff (ltb (x .item .p) (y .item .p)) (falling (y ∷ l)) .0 (first .1) in
     (λ _. (ltb-true _ _ (first .0), ltb-true _ _ (second .0)), second .1)
 
 under-falling : (x : Recorded) (l : List Recorded) (count : ℕ) → (count ≡ 0 → ⊥) → Under count (x .item .m) (x .item .p) l → falling l ≡ true → falling (x ∷ l) ≡ true
@@ -149,9 +141,9 @@ module _ (a : List ℕ) (most : ℕ) (passed : List ℕ) (count m p r : ℕ) (he
   turn-of : (rest : List ℕ) → r ≤ 512 → walk most a (forward a r 0) ≡ taken rest → Rest a (suc most) passed count m p (r ∷ rest) → Turn a most passed count m p r
   unfolding linked held
   turn-of rest few walks k =
-      let one = both (leb 1 (level a r)) (leb (level a r) 8 && (linksRight a r rest (level a r) && linked a rest)) (k .chain) in
-      let two = both (leb (level a r) 8) (linksRight a r rest (level a r) && linked a rest) (one .1) in
-      let three = both (linksRight a r rest (level a r)) (linked a rest) (two .1) in
+      let one = and-eq-true-iff (leb 1 (level a r)) (leb (level a r) 8 && (linksRight a r rest (level a r) && linked a rest)) .0 (k .chain) in
+      let two = and-eq-true-iff (leb (level a r) 8) (linksRight a r rest (level a r) && linked a rest) .0 (one .1) in
+      let three = and-eq-true-iff (linksRight a r rest (level a r)) (linked a rest) .0 (two .1) in
       let some = leb-true 1 (level a r) (one .0) in
       let own = links-each a r rest (level a r) (three .0) in
       let order = falling-under _ _ (count + 1) (k .falls) in

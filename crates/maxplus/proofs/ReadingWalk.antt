@@ -17,7 +17,8 @@ use Rattle.maxplus.specs.declared.read_list.Item.{Item as Read}
 use Rattle.arena.specs.Arena.{word, level, mWord, pWord, adjust}
 use Rattle.arena.specs.Lazy.{lastWith, trueP, held, lazyList}
 use Rattle.arena.proofs.Cases.{lt-or-ge}
-use Rattle.arena.proofs.Frames.{sum-frame}
+use Rattle.arena.proofs.SumLaws.{sum-frame}
+use Rattle.arena.proofs.ListLaws.{held-length}
 use Rattle.maxplus.specs.Read.{readItem, reading}
 use Rattle.maxplus.specs.Pass.{refusedReading, readAt, Decides, Levelled, Are, Fits, risen, Passed, Follows}
 use Rattle.maxplus.proofs.Following.{last-here, last-past, due, Rest, Meets, Turn, turn, turn-back, rest-full, rest-over, rest-none}
@@ -58,13 +59,8 @@ held-more a before (x ∷ xs) r =
     (held-more a (before ++ (x ∷ [])) xs r
     ∙ ap (λ (l : List ℕ). held a 0 (before ++ (x ∷ [])) xs ++ (itemOf a l r ∷ [])) (append-assoc before (x ∷ []) xs))
 
-held-long : (a before xs : List ℕ) → length (held a 0 before xs) ≡ length xs
-unfolding held
-held-long a before [] = refl
-held-long a before (x ∷ xs) = ap suc (held-long a (before ++ (x ∷ [])) xs)
-
 size-items : (a xs : List ℕ) → length (items (held a 0 [] xs)) ≡ length xs
-size-items a xs = length-map (held a 0 [] xs) (λ (r : Recorded). r .item) ∙ held-long a [] xs
+size-items a xs = length-map (held a 0 [] xs) (λ (r : Recorded). r .item) ∙ held-length a 0 [] xs
 
 -- A fact that the code's test was for.
 decided : (b : Bool) (P : Type 0) → Decides b P → not b ≡ false → P
@@ -249,7 +245,7 @@ module _ (a : List ℕ) (place : ℕ) (e s : List ℕ) (count : ℕ) (before fou
         ∙ ap (λ (l : List ℕ). taken (held a 0 [] l)) (append-nil (w .passed))
 
     size-held : length (held a 0 [] (w .passed)) ≡ count
-    size-held = held-long a [] (w .passed) ∙ w .counted
+    size-held = held-length a 0 [] (w .passed) ∙ w .counted
 
     pub walk-read : (z : Reading) → z ≡ readAt count place (found .m) (found .p) → z ≡ reading (readItem a place)
     walk-read z q =

@@ -1,10 +1,8 @@
 -- What an arena holds of a list is what the list carries, entered with the adjusts of its head.
 -- The last record with a link before the next one is the record just passed where that has the link, which is how the running sums go on.
 use mathlib.Core.Path.{_≡_, refl, ap, ap₂, _∙_}
-use mathlib.Core.Bool.{cond}
 use mathlib.Core.List.{List, [], _∷_, _++_}
 use Prim.Native.Nat.{ℕ, _<_}
-use lib.Dec.{ltb}
 use borrow.Author.Tests.{lt-ltb, le-ltb}
 use Rattle.slicing.specs.Item.{size}
 use Rattle.slicing.specs.Recorded.{Recorded}
@@ -13,7 +11,7 @@ use Rattle.arena.specs.Lazy.{lastWith, trueP, held}
 use Rattle.arena.specs.Chain.{pUnder, after, trues}
 use Rattle.arena.proofs.Cases.{lt-or-ge}
 use Rattle.arena.proofs.PutLaws.{same-refl}
-use Rattle.arena.proofs.ListLaws.{last-append}
+use Rattle.arena.proofs.ListLaws.{last-more}
 use Rattle.arena.proofs.Frames.{all-refl}
 use Rattle.merging.specs.Carried.{carried}
 use Rattle.merging.proofs.CarriedLaws.{carried-same}
@@ -22,14 +20,10 @@ use Rattle.merging.proofs.CarriedLaws.{carried-same}
 abbrev sums : List ℕ → ℕ → List ℕ → ℕ → ℕ
 sums a h before k = adjust a (lastWith a k h before) k
 
-last-one : (a : List ℕ) (k h r : ℕ) → lastWith a k h (r ∷ []) ≡ cond (ltb k (level a r)) r h
-unfolding lastWith
-last-one a k h r = refl
-
 sums-on : (a : List ℕ) (h : ℕ) (before : List ℕ) (r k : ℕ) → sums a h (before ++ (r ∷ [])) k ≡ after a (sums a h before) r k
 unfolding after
 sums-on a h before r k =
-    ap (λ (x : ℕ). adjust a x k) (last-append a k h before (r ∷ []) ∙ last-one a k (lastWith a k h before) r)
+    ap (λ (x : ℕ). adjust a x k) (last-more a k h before r)
     ∙ lt-or-ge k (level a r) (λ less. rw (lt-ltb k (level a r) less) refl) (λ more. rw (le-ltb k (level a r) more) refl)
 
 pub carried-sums : (a : List ℕ) (f g : ℕ → ℕ) (rs : List ℕ) → ((k : ℕ) → k < 8 → g k ≡ f k) → carried a g rs ≡ carried a f rs

@@ -2,7 +2,6 @@ pub mod SearchLaws
 pub mod LiftLaws
 pub mod Raising
 pub mod DropLaws
-pub mod FirstLaws
 pub mod OpeningLaws
 pub mod SettleLaws
 pub mod FrontLaws

@@ -11,7 +11,8 @@ use Rattle.arena.specs.Arena.{level, pWord, adjust}
 use Rattle.arena.specs.Lazy.{sumFrom}
 use Rattle.arena.specs.Chain.{wrap, pUnder, after}
 use Rattle.arena.proofs.Cases.{lt-or-ge, last-or-below}
-use Rattle.arena.proofs.Frames.{sum-agree, sum-frame, after-in, after-out}
+use Rattle.arena.proofs.SumLaws.{sum-agree, sum-frame}
+use Rattle.arena.proofs.Frames.{after-in, after-out}
 use Rattle.merging.specs.Lift.{Lifted}
 
 -- g is f, but raised by v at k.

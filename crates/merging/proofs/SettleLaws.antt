@@ -2,28 +2,17 @@
 -- A record reads the sums above its own links alone, and hands on its own adjusts below; so a change at link k is seen up to the first record with link k and not behind it.
 use mathlib.Core.Path.{_≡_, refl, sym, ap, ap₂, _∙_}
 use mathlib.Core.List.{List, [], _∷_, _++_, map}
-use Prim.Native.Nat.{ℕ, zero, suc, _+_, _%_, _^_, _≤_, _<_}
+use Prim.Native.Nat.{ℕ, suc, _+_, _%_, _^_, _≤_, _<_}
 use native.Mathlib.Numerals.{add-one}
 use native.Mathlib.Omega.{arith}
 use Rattle.arena.specs.Arena.{level, pWord}
 use Rattle.arena.specs.Lazy.{sumFrom}
 use Rattle.arena.specs.Chain.{wrap, All, pUnder, after, trues, leaving, Shape, Value}
 use Rattle.arena.proofs.Cases.{lt-or-ge}
-use Rattle.arena.proofs.Frames.{sum-agree, sum-frame, after-in, after-out, trues-frame}
-use Rattle.arena.proofs.SumLaws.{sum-none, sum-more}
+use Rattle.arena.proofs.SumLaws.{sum-none, sum-more, sum-agree, sum-frame, sum-split}
+use Rattle.arena.proofs.Frames.{after-in, after-out, trues-frame}
 use Rattle.merging.specs.Lift.{Lifted}
 use Rattle.merging.proofs.LiftLaws.{Bumped, under-lifted, after-lifted}
-
--- A sum over the links from l up to n is that up to m and that from m on.
-pub sum-split : (f : ℕ → ℕ) (l m n : ℕ) → l ≤ m → m ≤ n → sumFrom f l n ≡ sumFrom f l m + sumFrom f m n
-sum-split f l m zero low high = omega (arith, sum-none f l zero (omega arith), sum-none f m zero (omega arith), sum-none f l m (omega arith))
-sum-split f l m (suc n) low high =
-    lt-or-ge n m
-    (λ p.
-    let same : m ≡ suc n = omega arith in
-    let none : sumFrom f m (suc n) ≡ 0 = sum-none f m (suc n) (omega arith) in
-    ap (sumFrom f l) (sym same) ∙ omega arith)
-    (λ p. omega (arith, sum-more f l n (omega arith), sum-more f m n p, sum-split f l m n low p))
 
 add-both : (t x y : ℕ) → x % 2 ^ 32 ≡ y % 2 ^ 32 → (t + x) % 2 ^ 32 ≡ (t + y) % 2 ^ 32
 add-both t x y e = omega arith

@@ -15,7 +15,8 @@ use Rattle.arena.specs.Chain.{Has, wrap, All, Away, Chain, Linked, trues, leavi
 use Rattle.arena.proofs.Cases.{lt-or-ge}
 use Rattle.arena.proofs.ListLaws.{last-none, all-left, last-forward}
 use Rattle.arena.proofs.PutLaws.{same-refl, same-trans}
-use Rattle.arena.proofs.Frames.{all-map, all-refl, same-value, linked-frame, sum-agree, trues-frame}
+use Rattle.arena.proofs.SumLaws.{sum-agree}
+use Rattle.arena.proofs.Frames.{all-map, all-refl, same-value, linked-frame, trues-frame}
 use Rattle.merging.specs.Lift.{Lifting, Chained}
 use Rattle.merging.specs.Settled.{headSums, lastSums, Ready, Settled}
 use Rattle.merging.proofs.LiftLaws.{Bumped}

@@ -5,6 +5,7 @@ use mathlib.Core.Bool.{Bool, true, false, cond}
 use mathlib.Core.List.{List, [], _∷_, List·Memᴰ, List·Memᴰ·head, List·Memᴰ·tail}
 use Prim.Native.Nat.{ℕ, _+_, _^_, _≤_, _<_}
 use native.Mathlib.Omega.{arith}
+use Rattle.checks.proofs.Cases.{cond-holds}
 use Rattle.slicing.specs.Good.{Ordered}
 use Rattle.slicing.specs.Recorded.{Recorded, mergeRecorded, items}
 use Rattle.arena.specs.Arena.{mWord}
@@ -33,15 +34,6 @@ inside-of lo hi (r ∷ rs) h = (
       (λ from. lt-or-ge r hi (λ to. (from, to)) (λ high. absurd (h r (λ i. let u = i .1 in omega arith) .0 refl))),
   inside-of lo hi rs (λ x out. h x out .1),
 )
-
--- One of two numbers is not a third.
-cond-ne : (s : Bool) (u v x : ℕ) → (u ≡ x → ⊥) → (v ≡ x → ⊥) → cond s u v ≡ x → ⊥
-cond-ne true u v x p q = p
-cond-ne false u v x p q = q
-
-cond-high : (s : Bool) (u v x : ℕ) → x ≤ u → x ≤ v → x ≤ cond s u v
-cond-high true u v x p q = p
-cond-high false u v x p q = q
 
 heads-apart : (s t : Bool) (place : ℕ) → place < 63 → cond s 577 (513 + place) ≡ cond t 578 (513 + (place + 1)) → ⊥
 heads-apart true true place low e = omega arith
@@ -161,16 +153,16 @@ module _ (levels a : List ℕ) (place lo mid hi : ℕ) (l k : List Recorded) (s 
     -- And so does the newer one.
     module _ (c : List ℕ) (y : ℕ) (h : Faces levels b c newer-head 578 mid hi k t y) where
       pub x-high : 513 ≤ x
-      x-high = subst (λ (z : ℕ). 513 ≤ z) (sym (f .head)) (cond-high s 577 older-head 513 (omega arith) (omega arith))
+      x-high = subst (λ (z : ℕ). 513 ≤ z) (sym (f .head)) (cond-holds (λ (z : ℕ). 513 ≤ z) s 577 older-head (omega arith) (omega arith))
 
       y-high : 513 ≤ y
-      y-high = subst (λ (z : ℕ). 513 ≤ z) (sym (h .head)) (cond-high t 578 newer-head 513 (omega arith) (omega arith))
+      y-high = subst (λ (z : ℕ). 513 ≤ z) (sym (h .head)) (cond-holds (λ (z : ℕ). 513 ≤ z) t 578 newer-head (omega arith) (omega arith))
 
       pub x-other : (z : ℕ) → (577 ≡ z → ⊥) → (older-head ≡ z → ⊥) → x ≡ z → ⊥
-      x-other z p q e = cond-ne s 577 older-head z p q (sym (f .head) ∙ e)
+      x-other z p q e = cond-holds (λ (u : ℕ). u ≡ z → ⊥) s 577 older-head p q (sym (f .head) ∙ e)
 
       y-other : (z : ℕ) → (578 ≡ z → ⊥) → (newer-head ≡ z → ⊥) → y ≡ z → ⊥
-      y-other z p q e = cond-ne t 578 newer-head z p q (sym (h .head) ∙ e)
+      y-other z p q e = cond-holds (λ (u : ℕ). u ≡ z → ⊥) t 578 newer-head p q (sym (h .head) ∙ e)
 
       x-y : x ≡ y → ⊥
       x-y e = heads-apart s t place (g .low-place) (sym (f .head) ∙ e ∙ h .head)

@@ -1,8 +1,8 @@
 -- A part's list stands as long as its head and the records of its range do, and goes with its head to another record.
 -- Everything said of a part is said of the words of these records.
-use mathlib.Core.Path.{_≡_, refl, sym, ap, subst, _∙_}
-use mathlib.Core.List.{List, [], _∷_}
-use Prim.Native.Nat.{ℕ, suc, _+_, _-_, _≤_, _<_}
+use mathlib.Core.Path.{_≡_, sym, ap, subst, _∙_}
+use mathlib.Core.List.{List, []}
+use Prim.Native.Nat.{ℕ, _+_, _-_, _≤_, _<_}
 use native.Mathlib.Omega.{arith}
 use lib.ListN.{length, getD}
 use Rattle.slicing.specs.Recorded.{Recorded}
@@ -11,6 +11,7 @@ use Rattle.arena.specs.Lazy.{held}
 use Rattle.arena.specs.Chain.{Has, All, Away, Same}
 use Rattle.arena.specs.Building.{Built}
 use Rattle.arena.proofs.Frames.{all-map, same-shape, next-frame, chain-frame}
+use Rattle.arena.proofs.ListLaws.{held-length}
 use Rattle.merging.proofs.HeldLaws.{held-carried}
 use Rattle.merging.proofs.CarriedLaws.{carried-same}
 use Rattle.parts.specs.Part.{Part}
@@ -20,11 +21,6 @@ use Rattle.parts.specs.Copying.{Copied}
 pub away-out : (lo hi x : ℕ) (rs : List ℕ) → ((lo ≤ x) × (x < hi) → ⊥) → All (λ y. (lo ≤ y) × (y < hi)) rs → Away x rs
 away-out lo hi x rs out inside =
     all-map rs (λ y i e. out (subst (λ (z : ℕ). (lo ≤ z) × (z < hi)) e i)) inside
-
-pub held-length : (a : List ℕ) (h : ℕ) (before rs : List ℕ) → length (held a h before rs) ≡ length rs
-unfolding held
-held-length a h before [] = refl
-held-length a h before (r ∷ rs) = ap suc (held-length a h _ rs)
 
 module _ (levels a b : List ℕ) (h lo hi : ℕ) (l : List Recorded) (p : Part levels a h lo hi l) where
   pub part-length : length (p .list) ≡ length l

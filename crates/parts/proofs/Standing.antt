@@ -10,7 +10,7 @@ use lib.ListN.{length, getD, set, take, drop, length-set, length-append, length-
 use lib.Seq.{getD-take, getD-drop, length-take-le}
 use Rattle.checks.specs.Answer.{taken}
 use Rattle.checks.proofs.Answers.{same-taken}
-use Rattle.slicing.specs.Tree.{Tree, gauge, gaugesOf, sizesOf, gaugeCount, sizeCount}
+use Rattle.slicing.specs.Tree.{Tree, gauge, sizesOf, gaugeCount, sizeCount}
 use Rattle.slicing.specs.Good.{Good}
 use Rattle.slicing.specs.Recorded.{Recorded, mergeRecorded, partRecorded}
 use Rattle.slicing.proofs.PartLists.{part-few}
@@ -18,14 +18,13 @@ use Rattle.slicing.proofs.Depths.{depth-few}
 use Rattle.facefile.specs.Format.{State, start, faceOf}
 use Rattle.facefile.specs.Tracking.{flat}
 use Rattle.facefile.proofs.Took.{state, Cut}
-use Rattle.facefile.proofs.Taken.{GoodParts, face-taken}
+use Rattle.facefile.proofs.Taken.{face-taken}
 use Rattle.facefile.proofs.Stacks.{reads-flat, sizes-join}
 use Rattle.facefile.proofs.PartArray.{Held, push-held, stack-few}
 use Rattle.facefile.proofs.Walk.{Walk, walk-start, walk-end, GaugeTurn, gauge-turn, JoinTurn, join-turn}
+use Rattle.facefile.proofs.WalkTurns.{turn-inside, turn-walk, turn-bytes, turn-sizes, turn-many, turn-good, turn-gauges}
 use Rattle.arena.specs.Chain.{Away}
 use Rattle.arena.specs.Loading.{numbers, Loadable, Loaded}
-use Rattle.facefile.specs.Sizes.{sizesIn}
-use Rattle.facefile.proofs.SizesIn.{from-in, in-same, in-length}
 use Rattle.parts.specs.Part.{headOf, Part, Suits, Parts}
 use Rattle.parts.specs.Copying.{Copied}
 use Rattle.parts.specs.Joining.{turnedIf, Joinable, Joined}
@@ -85,17 +84,11 @@ module _ (file levels a₀ a kinds : List ℕ) (at parts done : ℕ) (k : Standi
       gauge-room = let b = stack-few file face at (k .state) (k .walk) in let c = k .count in let f = turn .few in omega arith
 
       pub gauge-inside : at + 2 + 4 * getD file (at + 1) 0 ≤ length file
-      gauge-inside = omega (arith, turn .count-is, turn .fits)
+      gauge-inside = turn-inside file face at (k .state) turn
 
       module _ (n : ℕ) (counted : n ≡ getD file (at + 1) 0) where
-        count-is : turn .count ≡ n
-        count-is = sym (turn .count-is) ∙ sym counted
-
-        sized : turn .sizes ≡ sizesIn n (drop (at + 2) file)
-        sized = from-in (turn .count) (drop (at + 2) file) (turn .sizes) (turn .sized) ∙ ap (λ (m : ℕ). sizesIn m (drop (at + 2) file)) count-is
-
         as-many : length (turn .sizes) ≡ n
-        as-many = ap length sized ∙ in-length n (drop (at + 2) file)
+        as-many = turn-many file face at (k .state) turn n counted
 
         -- The gauge's sizes have levels, and records.
         pub levels-left : done + n ≤ length levels
@@ -125,18 +118,6 @@ module _ (file levels a₀ a kinds : List ℕ) (at parts done : ℕ) (k : Standi
         own-at : (i : ℕ) → i < n → getD own i 0 ≡ getD levels (done + i) 0
         own-at i less = getD-take (done + n - done) (drop done levels) i 0 (omega arith) ∙ getD-drop done levels i 0
 
-        bytes-long : length bytes ≡ 4 * n
-        bytes-long =
-            let left = length-drop (at + 2) file in
-            let inside = gauge-inside in
-            length-take-le (at + 2 + 4 * n - (at + 2)) (drop (at + 2) file) (omega arith) ∙ omega arith
-
-        sized-own : turn .sizes ≡ sizesIn n bytes
-        sized-own =
-            sized
-            ∙ in-same n (drop (at + 2) file) bytes
-            (λ i less. sym (getD-take (at + 2 + 4 * n - (at + 2)) (drop (at + 2) file) i 0 (omega arith)))
-
         pub gauge-loads : Loadable a (513 + parts) (done + 1) bytes own
         gauge-loads =
             let long = standing-long in
@@ -152,7 +133,7 @@ module _ (file levels a₀ a kinds : List ℕ) (at parts done : ℕ) (k : Standi
               apart = λ i less same. omega arith;
               low = λ i less. subst (λ (v : ℕ). 1 ≤ v) (sym (own-at i (omega arith))) (k .ready .low (done + i) (omega arith));
               high = λ i less. subst (λ (v : ℕ). v ≤ 8) (sym (own-at i (omega arith))) (k .ready .high (done + i) (omega arith));
-              bytes = bytes-long ∙ ap (λ (m : ℕ). 4 * m) (sym own-long);
+              bytes = turn-bytes file face at (k .state) turn n counted ∙ ap (λ (m : ℕ). 4 * m) (sym own-long);
             }
 
         -- The parts below stand as they did, and the gauge on them.
@@ -168,12 +149,12 @@ module _ (file levels a₀ a kinds : List ℕ) (at parts done : ℕ) (k : Standi
             let out : (x : ℕ) → (x < done + 1) → Away x (numbers (done + 1) (length own)) = λ x low. away-out (done + 1) (done + 1 + n) x (numbers (done + 1) (length own)) (λ i. let w = i .0 in omega arith) (numbers-inside (done + 1) (done + 1) (length own) (done + 1 + n) (omega arith) (omega arith)) in
             let high : (x : ℕ) → 513 ≤ x → Away x (numbers (done + 1) (length own)) = λ x low. away-out (done + 1) (done + 1 + n) x (numbers (done + 1) (length own)) (λ i. let w = i .1 in omega arith) (numbers-inside (done + 1) (done + 1) (length own) (done + 1 + n) (omega arith) (omega arith)) in
             let below : Parts levels b (k .state .stack) (done + 1) = parts-frame levels a b (k .state .stack) (done + 1) (d .long) (omega arith) (λ x u w. d .outside x (λ e. omega arith) (out x w)) (λ i less. d .outside (headOf i) (λ e. omega arith) (high (headOf i) (omega arith))) (k .stands) in
-            let here : Part levels b (headOf (length (k .state .stack))) (done + 1) (done + n + 1) (partRecorded 0 (done + 1) (gauge z)) = subst (λ (h : ℕ). Part levels b h (done + 1) (done + n + 1) (partRecorded 0 (done + 1) (gauge z))) (sym head) (subst (λ (hi : ℕ). Part levels b (513 + parts) (done + 1) hi (partRecorded 0 (done + 1) (gauge z))) (omega arith) (loaded-part levels a b (513 + parts) done n bytes own z sized-own own-at own-long d)) in
+            let here : Part levels b (headOf (length (k .state .stack))) (done + 1) (done + n + 1) (partRecorded 0 (done + 1) (gauge z)) = subst (λ (h : ℕ). Part levels b h (done + 1) (done + n + 1) (partRecorded 0 (done + 1) (gauge z))) (sym head) (subst (λ (hi : ℕ). Part levels b (513 + parts) (done + 1) hi (partRecorded 0 (done + 1) (gauge z))) (omega arith) (loaded-part levels a b (513 + parts) done n bytes own z (turn-sizes file face at (k .state) turn n counted) own-at own-long d)) in
             let all : Parts levels b (gauge z ∷ k .state .stack) (done + n + 1) = (done + 1, (let s = as-many in omega arith), here, below) in
             record {
               ready = k .ready;
               state = turn .next;
-              walk = subst (λ (i : ℕ). Walk file face i (turn .next)) (ap (λ (m : ℕ). at + 2 + 4 * m) count-is) (turn .walk);
+              walk = turn-walk file face at (k .state) turn n counted;
               count = ap length (turn .stack) ∙ ap suc c ∙ sym (add-one parts);
               length-kept = d .long ∙ k .length-kept;
               kinds-long = ap length stored ∙ length-set kinds parts v ∙ kinds-room;
@@ -234,16 +215,10 @@ module _ (file levels a₀ a kinds : List ℕ) (at parts done : ℕ) (k : Standi
           omega arith
 
       good : Good newer × Good older
-      good = let all = subst (λ (s : List Tree). GoodParts s) (joining .stack-before) (k .walk .sound .good) in (all .0, all .1 .0)
+      good = turn-good file face at (k .state) (k .walk) joining
 
       gauges-few : gaugeCount older + gaugeCount newer ≤ 64
-      gauges-few =
-          let all = ap (λ (s : List Tree). length (flat gaugesOf s)) (joining .stack-before) in
-          let one = length-append (flat gaugesOf (older ∷ rest)) (gaugesOf newer) in
-          let last = length-append (flat gaugesOf rest) (gaugesOf older) in
-          let c = k .walk .sound .counted in
-          let f = k .walk .sound .few in
-          omega arith
+      gauges-few = turn-gauges file face at (k .state) (k .walk) joining
 
       module _ (kind : ℕ) (kind-is : kind ≡ getD file at 0) (s t : Bool) (s-is : s ≡ across (getD kinds (parts - 2) 0) kind) (t-is : t ≡ across (getD kinds (parts - 2 + 1) 0) kind) where
         cut : Cut kind (joining .cut)

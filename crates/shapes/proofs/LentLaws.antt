@@ -1,7 +1,7 @@
 -- Checks 14 to 18 as the code asks them: each way out has the number that the definition has there, and what is taken has passed them all.
 -- The levels that are left after i of them decide as all do where these i are in range.
 use mathlib.Core.Path.{_≡_, refl, sym, ap, _∙_}
-use mathlib.Core.Bool.{Bool, true, false, _&&_, not}
+use mathlib.Core.Bool.{Bool, true, false, _&&_, not, and-eq-true-iff}
 use mathlib.Core.List.{List, [], _∷_}
 use Prim.Native.Nat.{ℕ, zero, suc, _+_, _*_, _-_, _≤_, _<_}
 use native.Mathlib.Numerals.{add-one}
@@ -13,7 +13,6 @@ use borrow.Author.Tests.{leb-true, eqb-true, le-leb, lt-leb, eq-eqb, ne-eqb, not
 use Rattle.checks.specs.Check.{LevelCount, LevelRange, Buffers, Output}
 use Rattle.checks.specs.Answer.{taken, number}
 use Rattle.checks.proofs.Answers.{ask-taken}
-use Rattle.facefile.proofs.Took.{both-true}
 use Rattle.shapes.specs.Listing.{levelsInRange, lentChecks}
 
 -- What the loop over the levels keeps.
@@ -51,11 +50,11 @@ checked-all levels i k over = sym (sym (k .same) ∙ ap levelsInRange (drop-of-l
 pub level-in : (levels : List ℕ) (i : ℕ) → i < length levels → levelsInRange levels ≡ true → (1 ≤ getD levels i 0) × (getD levels i 0 ≤ 8)
 level-in [] i less e = absurd (omega arith)
 level-in (l ∷ levels) zero less e =
-    let both = both-true (leb 1 l && leb l 8) (levelsInRange levels) e in
-    let own = both-true (leb 1 l) (leb l 8) (both .0) in
+    let both = and-eq-true-iff (leb 1 l && leb l 8) (levelsInRange levels) .0 e in
+    let own = and-eq-true-iff (leb 1 l) (leb l 8) .0 (both .0) in
     (leb-true 1 l (own .0), leb-true l 8 (own .1))
 level-in (l ∷ levels) (suc i) less e =
-    level-in levels i (omega arith) (both-true (leb 1 l && leb l 8) (levelsInRange levels) e .1)
+    level-in levels i (omega arith) (and-eq-true-iff (leb 1 l && leb l 8) (levelsInRange levels) .0 e .1)
 
 module _ (n g : ℕ) (levels : List ℕ) (arena scratch output : ℕ) where
   pub lent-count : (length levels ≡ n → ⊥) → 14 ≡ number (lentChecks n g levels arena scratch output)
@@ -109,7 +108,7 @@ module _ (n g : ℕ) (levels : List ℕ) (arena scratch output : ℕ) where
       let range = ask-taken (levelsInRange levels) LevelRange _ tt (count .1) in
       let buffers = ask-taken (leb 16_384 arena && leb 16_384 scratch) Buffers _ tt (range .1) in
       let out = ask-taken (leb (2 * (n - g + 1)) output) Output _ tt (buffers .1) in
-      let both = both-true (leb 16_384 arena) (leb 16_384 scratch) (buffers .0) in
+      let both = and-eq-true-iff (leb 16_384 arena) (leb 16_384 scratch) .0 (buffers .0) in
       record {
         as-many = eqb-true (length levels) n (count .0);
         in-range = range .0;

@@ -20,10 +20,11 @@ use Rattle.facefile.specs.Format.{faceOf}
 use Rattle.facefile.proofs.Taken.{face-taken}
 use Rattle.arena.specs.Lazy.{held}
 use Rattle.arena.proofs.Frames.{all-map}
+use Rattle.arena.proofs.ListLaws.{held-length}
 use Rattle.maxplus.proofs.Holds.{holds-lazy}
 use Rattle.facefile.specs.Kinds.{kindOf}
 use Rattle.parts.specs.Building.{Whole}
-use Rattle.parts.proofs.PartLaws.{held-length, part-length}
+use Rattle.parts.proofs.PartLaws.{part-length}
 use Rattle.shapes.specs.Listing.{listWords, writtenOver, RootList}
 use Rattle.shapes.specs.Writing.{Listable}
 use Rattle.shapes.specs.Taken.{Writable, WroteFace, Wrote}

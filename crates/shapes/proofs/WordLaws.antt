@@ -1,7 +1,7 @@
 -- The words of items: how many they are, what one more item at either end of them writes, and that items written one by one from the start, or from the end, are their words over the buffer.
 -- Each goes down the words; a store past the words written leaves them.
 use mathlib.Core.Path.{_≡_, refl, ap, ap₂, _∙_}
-use mathlib.Core.List.{List, [], _∷_, _++_, map, reverse-cons}
+use mathlib.Core.List.{List, [], _∷_, _++_}
 use Prim.Native.Nat.{ℕ, suc, _+_, _*_, _≤_}
 use native.Mathlib.Nat.{suc-add}
 use native.Mathlib.Numerals.{add-one}
@@ -10,6 +10,7 @@ use lib.ListN.{length, set, drop, length-set}
 use lib.Seq.{sets, sets-eq}
 use Rattle.slicing.specs.Item.{Item, height, width}
 use Rattle.slicing.specs.Merge.{swap, turn}
+use Rattle.slicing.proofs.TurnLaws.{turn-cons}
 use Rattle.shapes.specs.Listing.{listWords, writtenOver}
 use Rattle.shapes.specs.Writing.{itemAt}
 
@@ -27,8 +28,7 @@ words-end (y ∷ l) z = ap (λ (ws : List ℕ). height y ∷ width y ∷ ws) (wo
 
 -- The first item is the last of the turned list.
 pub turned-words : (z : Item) (l : List Item) → listWords (turn (z ∷ l)) ≡ listWords (turn l) ++ (width z ∷ height z ∷ [])
-unfolding turn
-turned-words z l = ap listWords (reverse-cons (swap z) (map swap l)) ∙ words-end (turn l) (swap z)
+turned-words z l = ap listWords (turn-cons z l) ∙ words-end (turn l) (swap z)
 
 -- Words from the buffer's start are stores of theirs in turn.
 pub over-sets : (ws out : List ℕ) → length ws ≤ length out → sets out 0 ws ≡ writtenOver ws out

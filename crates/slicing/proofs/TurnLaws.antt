@@ -9,7 +9,7 @@ use Rattle.slicing.specs.Item.{Item}
 use Rattle.slicing.specs.Good.{Ordered}
 use Rattle.slicing.specs.Merge.{swap, turn}
 
-turn-cons : (x : Item) (l : List Item) → turn (x ∷ l) ≡ turn l ++ (swap x ∷ [])
+pub turn-cons : (x : Item) (l : List Item) → turn (x ∷ l) ≡ turn l ++ (swap x ∷ [])
 unfolding turn
 turn-cons x l = reverse-cons (swap x) (map swap l)
 

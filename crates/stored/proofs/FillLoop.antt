@@ -4,8 +4,7 @@ use mathlib.Core.Path.{_≡_, refl, sym, ap, subst, _∙_}
 use mathlib.Core.List.{List, [], _∷_}
 use Prim.Native.Nat.{ℕ, _+_, _*_, _-_, _≤_, _<_}
 use native.Mathlib.Omega.{arith}
-use lib.ListN.{length, getD, take, drop, length-append, length-drop}
-use lib.Seq.{getD-take, length-take-le}
+use lib.ListN.{length, getD, take, drop, length-append}
 use Rattle.checks.specs.Answer.{taken}
 use Rattle.checks.proofs.Answers.{same-taken}
 use Rattle.slicing.specs.Item.{Item}
@@ -18,10 +17,10 @@ use Rattle.slicing.proofs.Stored.{storedItems}
 use Rattle.facefile.specs.Format.{State, start, faceOf}
 use Rattle.facefile.specs.Tracking.{flat}
 use Rattle.facefile.specs.Sizes.{sizesIn}
-use Rattle.facefile.proofs.SizesIn.{from-in, in-same, in-length}
+use Rattle.facefile.proofs.SizesIn.{in-length}
 use Rattle.facefile.proofs.Took.{Cut, cut-beside, cut-stacked}
-use Rattle.facefile.proofs.Taken.{GoodParts}
 use Rattle.facefile.proofs.Walk.{Walk, walk-start, walk-end, GaugeTurn, gauge-turn, JoinTurn, join-turn}
+use Rattle.facefile.proofs.WalkTurns.{turn-inside, turn-count, turn-walk, turn-bytes, turn-sizes, turn-many, turn-good, turn-gauges}
 use Rattle.stored.specs.Packed.{ownShapes}
 use Rattle.stored.specs.Store.{Entry, Stored}
 use Rattle.stored.specs.Filling.{Between, Lies, Added, Rows, Fillable, Filled}
@@ -95,30 +94,11 @@ module _ (file s₀ s : List ℕ) (at part to : ℕ) (k : Filling file s₀ s at
       turn = gauge-turn file face at (k .state) (k .walk) more e
 
       pub gauge-inside : at + 2 + 4 * getD file (at + 1) 0 ≤ length file
-      gauge-inside = omega (arith, turn .count-is, turn .fits)
+      gauge-inside = turn-inside file face at (k .state) turn
 
       module _ (n : ℕ) (is-count : n ≡ getD file (at + 1) 0) where
-        count-is : turn .count ≡ n
-        count-is = sym (turn .count-is) ∙ sym is-count
-
         abbrev bytes : List ℕ
         bytes = take (at + 2 + 4 * n - (at + 2)) (drop (at + 2) file)
-
-        bytes-long : length bytes ≡ 4 * n
-        bytes-long =
-            let left = length-drop (at + 2) file in
-            let inside = gauge-inside in
-            length-take-le (at + 2 + 4 * n - (at + 2)) (drop (at + 2) file) (omega arith) ∙ omega arith
-
-        sized : turn .sizes ≡ sizesIn n bytes
-        sized =
-            from-in (turn .count) (drop (at + 2) file) (turn .sizes) (turn .sized)
-            ∙ ap (λ (m : ℕ). sizesIn m (drop (at + 2) file)) count-is
-            ∙ in-same n (drop (at + 2) file) bytes
-            (λ i less. sym (getD-take (at + 2 + 4 * n - (at + 2)) (drop (at + 2) file) i 0 (omega arith)))
-
-        as-many : length (turn .sizes) ≡ n
-        as-many = ap length sized ∙ in-length n bytes
 
         part-few : part < 127
         part-few =
@@ -129,13 +109,13 @@ module _ (file s₀ s : List ℕ) (at part to : ℕ) (k : Filling file s₀ s at
             omega arith
 
         few-sizes : n ≤ 8
-        few-sizes = let most = turn .most in let c = count-is in omega arith
+        few-sizes = let most = turn .most in let c = turn-count file face at (k .state) turn n is-count in omega arith
 
         pub gauge-room : Room s part to n × (length bytes ≡ 4 * n) × (n ≤ 8)
         gauge-room =
             let p = place-few in
             let few = few-sizes in
-            (record { long = long; part = part-few; from = p .0; items = omega arith }, bytes-long, few)
+            (record { long = long; part = part-few; from = p .0; items = omega arith }, turn-bytes file face at (k .state) turn n is-count, few)
 
         pub gauge-fits : to + n < 65_536
         gauge-fits = let p = place-few in let few = few-sizes in omega arith
@@ -145,7 +125,7 @@ module _ (file s₀ s : List ℕ) (at part to : ℕ) (k : Filling file s₀ s at
             let v = turn .sizes in
             let p = place-few in
             let back : part ≡ part + 1 - 1 = omega arith in
-            let list : sizesIn n bytes ≡ ownShapes (gauge v) = sym sized ∙ sym (own-gauge v) in
+            let list : sizesIn n bytes ≡ ownShapes (gauge v) = sym (turn-sizes file face at (k .state) turn n is-count) ∙ sym (own-gauge v) in
             let long-list = ap length list ∙ refl in
             let many = in-length n bytes in
             let here : Stored z (part + 1 - 1) (gauge v) = subst (λ (x : ℕ). Entry z x 0x01 1 (ownShapes (gauge v))) back (subst (λ (l : List Item). Entry z part 0x01 1 l) list (d .entry)) in
@@ -155,10 +135,10 @@ module _ (file s₀ s : List ℕ) (at part to : ℕ) (k : Filling file s₀ s at
             record {
               ready = k .ready;
               state = turn .next;
-              walk = subst (λ (i : ℕ). Walk file face i (turn .next)) (ap (λ (m : ℕ). at + 2 + 4 * m) count-is) (turn .walk);
+              walk = turn-walk file face at (k .state) turn n is-count;
               length-kept = d .length-kept ∙ k .length-kept;
               rows = subst (λ (x : List Tree). Rows z (to + n) x (part + 1)) (sym (turn .stack)) all;
-              used-is = let u = k .used-is in let stack = ap used (turn .stack) in let m = as-many in omega arith;
+              used-is = let u = k .used-is in let stack = ap used (turn .stack) in let m = turn-many file face at (k .state) turn n is-count in omega arith;
             }
 
     module _ (e : getD file at 0 ≡ 1 → ⊥) where
@@ -184,16 +164,10 @@ module _ (file s₀ s : List ℕ) (at part to : ℕ) (k : Filling file s₀ s at
       lo = stand .4 .0
 
       good : Good newer × Good older
-      good = let all = subst (λ (x : List Tree). GoodParts x) (joining .stack-before) (k .walk .sound .good) in (all .0, all .1 .0)
+      good = turn-good file face at (k .state) (k .walk) joining
 
       gauges-few : gaugeCount older + gaugeCount newer ≤ 64
-      gauges-few =
-          let all = ap (λ (x : List Tree). length (flat gaugesOf x)) (joining .stack-before) in
-          let one = length-append (flat gaugesOf (older ∷ rest)) (gaugesOf newer) in
-          let last = length-append (flat gaugesOf rest) (gaugesOf older) in
-          let c = k .walk .sound .counted in
-          let f = k .walk .sound .few in
-          omega arith
+      gauges-few = turn-gauges file face at (k .state) (k .walk) joining
 
       numbers : (mid - 1 ≡ part - 2 * gaugeCount newer) × (1 ≤ part) × (2 * gaugeCount newer ≤ part) × (part < 127)
       numbers =

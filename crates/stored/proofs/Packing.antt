@@ -1,31 +1,22 @@
 -- The sizes of a gauge packed one after the other: after k turns of the loop the first k stand, and a gauge so packed is a part.
 -- Each turn writes one item more after the last.
-use mathlib.Core.Path.{_≡_, refl, sym, ap, ap₂, subst, _∙_}
+use mathlib.Core.Path.{_≡_, refl, sym, ap, subst, _∙_}
 use mathlib.Core.List.{List, [], _∷_, _++_}
 use Prim.Native.Nat.{ℕ, zero, suc, _+_, _*_, _≤_, _<_}
 use native.Mathlib.Numerals.{add-one}
 use native.Mathlib.Omega.{arith}
 use lib.ListN.{length, getD, set, drop, length-set}
-use lib.Seq.{getD-set-other, getD-drop, drop-drop}
+use lib.Seq.{getD-set-other, drop-drop}
 use Rattle.slicing.specs.Item.{Item, size}
 use Rattle.facefile.specs.Format.{field, sizeAt}
 use Rattle.facefile.specs.Sizes.{sizesIn}
+use Rattle.facefile.proofs.SizeChecks.{size-at}
 use Rattle.facefile.proofs.SizesIn.{in-length}
 use Rattle.stored.specs.Packed.{pack, HasList}
 use Rattle.stored.specs.Filling.{entryAt, Added}
 use Rattle.stored.specs.Adding.{Room}
 use Rattle.stored.proofs.StoredLists.{has-grown}
 use Rattle.stored.proofs.EntryLaws.{entry-added}
-
-field-drop : (bytes : List ℕ) (n i : ℕ) → field (drop n bytes) i ≡ field bytes (n + i)
-field-drop bytes n i =
-    let place : n + (i + 1) ≡ n + i + 1 = omega arith in
-    ap₂ (λ (u v : ℕ). 256 * u + v) (getD-drop n bytes i 0) (getD-drop n bytes (i + 1) 0 ∙ ap (λ (j : ℕ). getD bytes j 0) place)
-
-size-at : (bytes : List ℕ) (k : ℕ) → size (field bytes (4 * k)) (field bytes (4 * k + 2)) ≡ sizeAt (drop (4 * k) bytes)
-size-at bytes k =
-    let place : 4 * k ≡ 4 * k + 0 = omega arith in
-    ap₂ size (ap (field bytes) place ∙ sym (field-drop bytes (4 * k) 0)) (sym (field-drop bytes (4 * k) 2))
 
 one-more : (k : ℕ) (bytes : List ℕ) → sizesIn (suc k) bytes ≡ sizesIn k bytes ++ (sizeAt (drop (4 * k) bytes) ∷ [])
 unfolding sizesIn
@@ -62,7 +53,7 @@ module _ (s₀ : List ℕ) (to : ℕ) (bytes : List ℕ) (count : ℕ) (s : List
   packing-more h w v height width word =
       let many = in-length k bytes in
       let inside = packing-room in
-      let same : size h w ≡ sizeAt (drop (4 * k) bytes) = ap₂ size (height .0) (width .0) ∙ size-at bytes k in
+      let same : size h w ≡ sizeAt (drop (4 * k) bytes) = size-at bytes (4 * k) h w (height .0) (width .0) in
       let all : sizesIn k bytes ++ (size h w ∷ []) ≡ sizesIn (k + 1) bytes = ap (λ (z : Item). sizesIn k bytes ++ (z ∷ [])) same ∙ sym (ap (λ (n : ℕ). sizesIn n bytes) (add-one k) ∙ one-more k bytes) in
       record {
         within = omega arith;

@@ -1,20 +1,16 @@
 -- The places of the items of a stretch, which go up, or down where the list is read turned: what `first_of`, `end_of`, `after` and `read_at` leave.
 -- Each answers by the same test whether the list is turned, so every law goes by the two answers of it.
-use mathlib.Core.Path.{_≡_, refl, sym, ap, _∙_}
+use mathlib.Core.Path.{_≡_, sym, ap, _∙_}
 use mathlib.Core.Bool.{Bool, true, false, cond, true≢false}
 use mathlib.Core.List.{List}
 use Prim.Native.Nat.{ℕ, _+_, _*_, _-_, _/_, _%_, _≤_, _<_}
 use native.Mathlib.Omega.{arith}
 use lib.ListN.{getD}
+use Rattle.checks.proofs.Cases.{by-test}
 use Rattle.stored.specs.Joining.{AtItem}
 use Rattle.stored.specs.declared.merge.Stretch.{Stretch}
 use Rattle.stored.proofs.Reading.{read-along, read-across}
 use Rattle.stored.proofs.Merging.{Reads}
-
--- By what is so where a test fails, and where it holds.
-by-answer : {P : Type 0} (t : Bool) → (t ≡ false → P) → (t ≡ true → P) → P
-by-answer true f g = g refl
-by-answer false f g = f refl
 
 -- What is said of a test that fails says nothing of one that holds, and the other way round.
 abbrev pub Either : Bool → ℕ → ℕ → ℕ → Type 0
@@ -47,27 +43,27 @@ module _ (a : Stretch) (k i : ℕ) (h : AtItem a k i) where
   -- Only the end is the place of the item after the last.
   pub at-more : (end : ℕ) → AtItem a (a .count) end → (i ≡ end → ⊥) → k ≤ a .count → k < a .count
   at-more end g other few =
-      by-answer (a .across) (λ e. let p = h .along e in let q = g .along e in omega arith)
-      (λ e. let p = h .turned e in let q = g .turned e in omega arith)
+      by-test (a .across) (λ e. let p = h .turned e in let q = g .turned e in omega arith)
+      (λ e. let p = h .along e in let q = g .along e in omega arith)
 
   pub at-out : (end : ℕ) → AtItem a (a .count) end → i ≡ end → a .count ≤ k
   at-out end g same =
-      by-answer (a .across) (λ e. let p = h .along e in let q = g .along e in omega arith)
-      (λ e. let p = h .turned e in let q = g .turned e in omega arith)
+      by-test (a .across) (λ e. let p = h .turned e in let q = g .turned e in omega arith)
+      (λ e. let p = h .along e in let q = g .along e in omega arith)
 
   pub at-between : k < a .count → (a .from ≤ i) × (i < a .from + a .count)
   at-between more =
-      by-answer (a .across) (λ e. let p = h .along e in omega arith)
-      (λ e. let p = h .turned e in omega arith)
+      by-test (a .across) (λ e. let p = h .turned e in omega arith)
+      (λ e. let p = h .along e in omega arith)
 
   pub at-reads : (z : List ℕ) (x : ℕ) → k < a .count → ReadAt z i (a .across) x → Reads z a k x
   at-reads z x more read =
-      by-answer (a .across)
-      (λ e. read-along z (a .from) (a .count) (a .across) k x more e (read .0 e ∙ ap (λ (n : ℕ). getD z n 0) (h .along e)))
+      by-test (a .across)
       (λ e.
       let p = h .turned e in
       let place : i ≡ a .from + (a .count - 1 - k) = omega arith in
       read-across z (a .from) (a .count) (a .across) k (getD z i 0) x more e (ap (λ (n : ℕ). getD z n 0) place) (read .1 e))
+      (λ e. read-along z (a .from) (a .count) (a .across) k x more e (read .0 e ∙ ap (λ (n : ℕ). getD z n 0) (h .along e)))
 
   pub at-moved : (n r : ℕ) → 1 ≤ a .from → k < a .count → n ≤ 1 → Moved (a .across) i n r → AtItem a (k + n) r
   at-moved n r first more few moved =
@@ -78,12 +74,12 @@ module _ (a : Stretch) (k i : ℕ) (h : AtItem a k i) where
 
   pub left-is : 1 ≤ a .from → k ≤ a .count → left a i ≡ a .count - k
   left-is first few =
-      by-answer (a .across)
-      (λ e.
-      let p = h .along e in
-      let rest : a .from + a .count - i ≡ a .count - k = omega arith in
-      ap (λ (t : Bool). cond t (i + 1 - a .from) (a .from + a .count - i)) e ∙ rest)
+      by-test (a .across)
       (λ e.
       let p = h .turned e in
       let rest : i + 1 - a .from ≡ a .count - k = omega arith in
+      ap (λ (t : Bool). cond t (i + 1 - a .from) (a .from + a .count - i)) e ∙ rest)
+      (λ e.
+      let p = h .along e in
+      let rest : a .from + a .count - i ≡ a .count - k = omega arith in
       ap (λ (t : Bool). cond t (i + 1 - a .from) (a .from + a .count - i)) e ∙ rest)

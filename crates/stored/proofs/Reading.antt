@@ -2,7 +2,7 @@
 -- Item k of the list turned is the item as far from the other end, swapped, and swapping the halves of its word swaps the item.
 use mathlib.Core.Path.{_≡_, refl, sym, ap, _∙_}
 use mathlib.Core.Bool.{Bool, true, false}
-use mathlib.Core.List.{List, [], _∷_, _++_, map, reverse-cons}
+use mathlib.Core.List.{List, [], _∷_}
 use Prim.Native.Nat.{ℕ, suc, _+_, _*_, _-_, _/_, _%_, _<_}
 use native.Mathlib.Omega.{arith}
 use lib.Dec.{ltb}
@@ -11,12 +11,8 @@ use lib.ListN.{length, getD, List·getD-append}
 use lib.Seq.{getD-at}
 use Rattle.slicing.specs.Item.{Item, size}
 use Rattle.slicing.specs.Merge.{swap, turn}
-use Rattle.slicing.proofs.TurnLaws.{turn-length}
+use Rattle.slicing.proofs.TurnLaws.{turn-cons, turn-length}
 use Rattle.stored.specs.Packed.{pack, facing, HasList}
-
-turn-cons : (x : Item) (l : List Item) → turn (x ∷ l) ≡ turn l ++ (swap x ∷ [])
-unfolding turn
-turn-cons x l = reverse-cons (swap x) (map swap l)
 
 -- The last item of the list turned is the first, swapped; the others are those of the rest.
 pub turn-at : (l : List Item) (k : ℕ) → k < length l → getD (turn l) k (size 0 0) ≡ swap (getD l (length l - 1 - k) (size 0 0))

@@ -14,7 +14,9 @@ returns c = call-refused (c .before .before .before .before .before .args .file 
 
 returns-2 : tie.Need-returns-2
 returns-2 c =
-    call-count (c .before .before .before .before .before .before .before .args .file .now) (c .before .before .before .before .before .before .before .args .levels .now) _ (c .before .before .before .before .read .ensures) (c .before .before .if1 .left) (c .if2 .taken)
+    let at-read = c .before .before .before .before in
+    let start = at-read .before .before .before in
+    call-count (start .args .file .now) (start .args .levels .now) _ (at-read .read .ensures) (c .before .before .if1 .left) (c .if2 .taken)
 
 depths-of-requires : tie.Need-depths-of-requires
 depths-of-requires c κs = face-tree _ _ (c .before .before .before .before .read .ensures) (c .before .before .if1 .left)
@@ -30,8 +32,14 @@ same-length c = search needs
 
 returns-3 : tie.Need-returns-3
 returns-3 c =
-    call-taken (c .before .before .before .before .before .before .before .before .before .before .before .before .before .args .file .now) (c .before .before .before .before .before .before .before .before .before .before .before .before .before .args .levels .now) _ (c .before .before .before .before .before .before .before .before .before .before .read .ensures) (c .before .before .before .before .before .before .before .before .if1 .left) _ _ _ (c .before .before .before .before .before .before .if2 .left)
-    (c .before .before .before .before .before .depths-of .ensures) (c .before .before .before .before .top-level .ensures) (c .before .before .fill-cut .ensures)
+    let at-top-level = c .before .before .before .before in
+    let at-depths-of = at-top-level .before in
+    let at-if2 = at-depths-of .before in
+    let at-if1 = at-if2 .before .before in
+    let at-read = at-if1 .before .before in
+    let start = at-read .before .before .before in
+    call-taken (start .args .file .now) (start .args .levels .now) _ (at-read .read .ensures) (at-if1 .if1 .left) _ _ _ (at-if2 .if2 .left)
+    (at-depths-of .depths-of .ensures) (at-top-level .top-level .ensures) (c .before .before .fill-cut .ensures)
 
 pub fill-spec : {M : Type 1} → statement M
 fill-spec =

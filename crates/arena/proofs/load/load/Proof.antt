@@ -55,7 +55,12 @@ loop-less c = search needs
 
 loop-again : tie.Need-loop-again Inv-loop μ-loop
 loop-again c =
-    loading-more _ _ _ _ _ _ _ (c .before .before .before .before .before .before .before .before .before .loop .inv) (c .before .before .before .before .before .before .before .before .loop-test .taken) _ _ _ _ (c .before .before .before .before .before .before .word-of .ensures .0) (c .before .before .before .before .before .field .ensures .0) (c .before .before .before .before .field2 .ensures .0) (c .before .before .before .before .field2 .ensures .1) (c .before .before .load-record .ensures)
+    let at-field2 = c .before .before .before .before in
+    let at-field = at-field2 .before in
+    let at-word-of = at-field .before in
+    let at-loop-test = at-word-of .before .before in
+    let at-loop = at-loop-test .before in
+    loading-more _ _ _ _ _ _ _ (at-loop .loop .inv) (at-loop-test .loop-test .taken) _ _ _ _ (at-word-of .word-of .ensures .0) (at-field .field .ensures .0) (at-field2 .field2 .ensures .0) (at-field2 .field2 .ensures .1) (c .before .before .load-record .ensures)
 
 same-length : tie.Need-same-length Inv-loop μ-loop
 same-length c = search needs

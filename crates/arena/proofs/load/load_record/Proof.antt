@@ -16,7 +16,11 @@ store-requires-3 c κs = search needs
 
 prepend-requires : tie.Need-prepend-requires
 prepend-requires c κs =
-    let level-is = stored-level _ _ _ _ _ _ _ _ (c .before .before .before .before .before .before .before .before .before .before .before .store .ensures) (c .before .before .before .before .before .before .before .store2 .ensures) (c .before .before .before .store3 .ensures) (c .before .before .before .before .before .before .before .before .before .before .before .before .before .before .pre .0 .has) in
+    let at-store3 = c .before .before .before in
+    let at-store2 = at-store3 .before .before .before .before in
+    let at-store = at-store2 .before .before .before .before in
+    let entry = at-store .before .before .before in
+    let level-is = stored-level _ _ _ _ _ _ _ _ (at-store .store .ensures) (at-store2 .store2 .ensures) (at-store3 .store3 .ensures) (entry .pre .0 .has) in
     search needs
 
 same-length : tie.Need-same-length

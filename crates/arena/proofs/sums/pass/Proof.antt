@@ -2,7 +2,7 @@
 -- The loop keeps `Passing`, that the sums below k are the record's adjusts; the measure is what is left of its level.
 use borrow.Author.Needs.{needs}
 use Prim.Native.Nat.{_-_}
-use Rattle.arena.proofs.SumLaws.{Passing, passing-start, passing-more, passing-done}
+use Rattle.arena.proofs.Summing.{Passing, passing-start, passing-more, passing-done}
 use Rattle.arena.proofs.sums.pass.Statement.{statement}
 use Rattle.arena.proofs.sums.pass.Tie as tie
 

@@ -2,12 +2,13 @@
 -- The loop keeps `Adding`, that p is the wrapped sum of the links passed; the measure is what is left of the eight.
 use borrow.Author.Needs.{needs}
 use Prim.Native.Nat.{_-_}
-use Rattle.arena.proofs.SumLaws.{Adding, adding-start, adding-more, adding-done}
+use Rattle.arena.specs.Turning.{sumsIn}
+use Rattle.arena.proofs.Summing.{Adding, adding-start, adding-more, adding-done}
 use Rattle.arena.proofs.sums.true_p.Statement.{statement}
 use Rattle.arena.proofs.sums.true_p.Tie as tie
 
 abbrev Inv-loop : tie.InvT-loop
-Inv-loop arena r sums p₀ k₀ p k = Adding arena r sums p k
+Inv-loop arena r sums p₀ k₀ p k = Adding arena r (sumsIn sums) p k
 
 abbrev μ-loop : tie.MeasureT-loop
 μ-loop arena r sums p₀ k₀ p k = 8 - k

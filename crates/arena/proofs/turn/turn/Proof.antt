@@ -27,7 +27,10 @@ get-requires c κs = search needs
 
 loop-holds : tie.Need-loop-holds Inv-loop μ-loop
 loop-holds c =
-    turning-start _ _ _ _ _ _ _ (c .before .before .before .before .before .before .before .before .before .before .before .pre) (c .before .before .before .before .before .before .before .before .clear-head .ensures) refl (c .before .before .before .pass .ensures) (c .get .ensures) (search needs)
+    let at-pass = c .before .before .before in
+    let at-clear-head = at-pass .before .before .before .before .before in
+    let entry = at-clear-head .before .before .before in
+    turning-start _ _ _ _ _ _ _ (entry .pre) (at-clear-head .clear-head .ensures) refl (at-pass .pass .ensures) (c .get .ensures) (search needs)
 
 wide-requires : tie.Need-wide-requires Inv-loop μ-loop
 wide-requires c κs = search needs
@@ -40,7 +43,10 @@ slice-aggregate-turn-record c = search needs
 
 turn-record-requires : tie.Need-turn-record-requires Inv-loop μ-loop
 turn-record-requires c κs =
-    turning-can _ _ _ _ _ _ (c .before .before .before .before .before .before .loop .inv) (c .before .before .before .before .before .loop-test .taken) _ (c .before .before .before .before .wide .ensures)
+    let at-wide = c .before .before .before .before in
+    let at-loop-test = at-wide .before in
+    let at-loop = at-loop-test .before in
+    turning-can _ _ _ _ _ _ (at-loop .loop .inv) (at-loop-test .loop-test .taken) _ (at-wide .wide .ensures)
 
 loop-less : tie.Need-loop-less Inv-loop μ-loop
 loop-less c = search (needs, turning-less)
@@ -53,7 +59,9 @@ same-length c = search needs
 
 returns : tie.Need-returns Inv-loop μ-loop
 returns c =
-    turning-done _ _ _ _ _ _ _ (λ i. c .before .before .before .before .before .before .before .before .before .before .before .before .slice-known .given i .fits) (c .before .before .before .before .before .before .before .before .before .before .clear-head .ensures) (c .before .loop .inv) (c .loop-test .left)
+    let at-clear-head = c .before .before .before .before .before .before .before .before .before .before in
+    let at-slice-known = at-clear-head .before .before in
+    turning-done _ _ _ _ _ _ _ (λ i. at-slice-known .slice-known .given i .fits) (at-clear-head .clear-head .ensures) (c .before .loop .inv) (c .loop-test .left)
 
 pub turn-spec : {M : Type 1} → statement M
 turn-spec =

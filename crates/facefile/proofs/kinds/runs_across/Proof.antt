@@ -1,15 +1,12 @@
--- `facefile::runs_across` meets its contract: it asks what `across` asks.
+-- `facefile::kinds::runs_across` meets its contract.
+-- Each way out is one answer of the test of the join's kind, and there `across` is the test of the part's kind.
 use Rattle.facefile.proofs.Across.{across-stacked, across-beside}
 use Rattle.facefile.proofs.kinds.runs_across.Statement.{statement}
 use Rattle.facefile.proofs.kinds.runs_across.Tie as tie
-use Rattle.facefile.proofs.kinds.runs_across.Reads as reads
-use Rattle.facefile.proofs.kinds.runs_across.Lts as lts
 
--- src/build.rt:26:9
 returns : tie.Need-returns
 returns c = across-stacked _ _ (c .if1 .taken)
 
--- src/build.rt:22:1
 returns-2 : tie.Need-returns-2
 returns-2 c = across-beside _ _ (c .if1 .left)
 

@@ -57,8 +57,12 @@ loop-less c = search needs
 
 loop-again : tie.Need-loop-again Inv-loop μ-loop
 loop-again c =
-    later-checked _ _ _ _ _ _ _ _ _ (c .before .before .before .before .before .before .loop .inv) (c .before .before .before .before .before .loop-test .taken) (c .before .before .before .before .size-at2 .ensures)
-    (c .before .before .before .is-limited2 .ensures) (c .before .before .is-ordered .ensures) (c .before .size-number2 .ensures) (c .if2 .left)
+    let at-is-limited2 = c .before .before .before in
+    let at-size-at2 = at-is-limited2 .before in
+    let at-loop-test = at-size-at2 .before in
+    let at-loop = at-loop-test .before in
+    later-checked _ _ _ _ _ _ _ _ _ (at-loop .loop .inv) (at-loop-test .loop-test .taken) (at-size-at2 .size-at2 .ensures)
+    (at-is-limited2 .is-limited2 .ensures) (c .before .before .is-ordered .ensures) (c .before .size-number2 .ensures) (c .if2 .left)
 
 returns-3 : tie.Need-returns-3 Inv-loop μ-loop
 returns-3 c = search (needs, all-checked)

@@ -14,26 +14,40 @@ refused-requires c κs = search needs
 
 returns : tie.Need-returns
 returns c =
-    fit-file (c .before .before .before .before .before .before .before .before .before .args .file .now) (c .before .before .before .before .before .before .before .before .before .args .levels .now) (c .before .before .before .before .before .before .before .before .before .args .height) (c .before .before .before .before .before .before .before .before .before .args .width) (c .before .before .before .before .before .before .before .before .before .args .arena .now) (c .before .before .before .before .before .before .before .before .before .args .scratch .now) (c .before .before .before .before .before .before .before .before .before .args .output .now) _ (c .before .before .before .read .ensures) (c .before .if1 .taken) _ (c .refused .ensures)
+    let at-read = c .before .before .before in
+    let start = at-read .before .before .before .before .before .before in
+    fit-file (start .args .file .now) (start .args .levels .now) (start .args .height) (start .args .width) (start .args .arena .now) (start .args .scratch .now) (start .args .output .now) _ (at-read .read .ensures) (c .before .if1 .taken) _ (c .refused .ensures)
 
 lent-number-requires : tie.Need-lent-number-requires
 lent-number-requires c κs =
-    fit-gauges (c .before .before .before .before .before .before .before .before .args .file .now) (c .before .before .before .before .before .before .before .before .args .levels .now) (c .before .before .before .before .before .before .before .before .args .height) (c .before .before .before .before .before .before .before .before .args .width) (c .before .before .before .before .before .before .before .before .args .arena .now) (c .before .before .before .before .before .before .before .before .args .scratch .now) (c .before .before .before .before .before .before .before .before .args .output .now) _ (c .before .before .read .ensures) (c .if1 .left)
+    let start = c .before .before .before .before .before .before .before .before in
+    fit-gauges (start .args .file .now) (start .args .levels .now) (start .args .height) (start .args .width) (start .args .arena .now) (start .args .scratch .now) (start .args .output .now) _ (c .before .before .read .ensures) (c .if1 .left)
 
 refused-requires-2 : tie.Need-refused-requires-2
 refused-requires-2 c κs = search needs
 
 returns-2 : tie.Need-returns-2
 returns-2 c =
-    fit-lent-no (c .before .before .before .before .before .before .before .before .before .before .before .args .file .now) (c .before .before .before .before .before .before .before .before .before .before .before .args .levels .now) (c .before .before .before .before .before .before .before .before .before .before .before .args .height) (c .before .before .before .before .before .before .before .before .before .before .before .args .width) (c .before .before .before .before .before .before .before .before .before .before .before .args .arena .now) (c .before .before .before .before .before .before .before .before .before .before .before .args .scratch .now) (c .before .before .before .before .before .before .before .before .before .before .before .args .output .now) _ (c .before .before .before .before .before .read .ensures) (c .before .before .before .if1 .left) _ (c .before .before .lent-number .ensures) (λ e. let t = c .before .if2 .taken in omega arith) _ (c .refused2 .ensures)
+    let at-if1 = c .before .before .before in
+    let at-read = at-if1 .before .before in
+    let start = at-read .before .before .before .before .before .before in
+    fit-lent-no (start .args .file .now) (start .args .levels .now) (start .args .height) (start .args .width) (start .args .arena .now) (start .args .scratch .now) (start .args .output .now) _ (at-read .read .ensures) (at-if1 .if1 .left) _ (c .before .before .lent-number .ensures) (λ e. let t = c .before .if2 .taken in omega arith) _ (c .refused2 .ensures)
 
 build-requires : tie.Need-build-requires
 build-requires c κs =
-    fit-builds (c .before .before .before .before .before .before .before .before .before .before .before .args .file .now) (c .before .before .before .before .before .before .before .before .before .before .before .args .levels .now) (c .before .before .before .before .before .before .before .before .before .before .before .args .height) (c .before .before .before .before .before .before .before .before .before .before .before .args .width) (c .before .before .before .before .before .before .before .before .before .before .before .args .arena .now) (c .before .before .before .before .before .before .before .before .before .before .before .args .scratch .now) (c .before .before .before .before .before .before .before .before .before .before .before .args .output .now) _ (c .before .before .before .before .before .read .ensures) (c .before .before .before .if1 .left) _ (c .before .before .lent-number .ensures) (let t = c .before .if2 .left in omega arith)
+    let at-if1 = c .before .before .before in
+    let at-read = at-if1 .before .before in
+    let start = at-read .before .before .before .before .before .before in
+    fit-builds (start .args .file .now) (start .args .levels .now) (start .args .height) (start .args .width) (start .args .arena .now) (start .args .scratch .now) (start .args .output .now) _ (at-read .read .ensures) (at-if1 .if1 .left) _ (c .before .before .lent-number .ensures) (let t = c .before .if2 .left in omega arith)
 
 place-face-requires : tie.Need-place-face-requires
 place-face-requires c κs =
-    fit-places (c .before .before .before .before .before .before .before .before .before .before .before .before .before .before .before .before .args .file .now) (c .before .before .before .before .before .before .before .before .before .before .before .before .before .before .before .before .args .levels .now) (c .before .before .before .before .before .before .before .before .before .before .before .before .before .before .before .before .args .height) (c .before .before .before .before .before .before .before .before .before .before .before .before .before .before .before .before .args .width) (c .before .before .before .before .before .before .before .before .before .before .before .before .before .before .before .before .args .arena .now) (c .before .before .before .before .before .before .before .before .before .before .before .before .before .before .before .before .args .scratch .now) (c .before .before .before .before .before .before .before .before .before .before .before .before .before .before .before .before .args .output .now) _ (c .before .before .before .before .before .before .before .before .before .before .read .ensures) (c .before .before .before .before .before .before .before .before .if1 .left) _ (c .before .before .before .before .before .before .before .lent-number .ensures) (let t = c .before .before .before .before .before .before .if2 .left in omega arith)
+    let at-if2 = c .before .before .before .before .before .before in
+    let at-lent-number = at-if2 .before in
+    let at-if1 = at-lent-number .before in
+    let at-read = at-if1 .before .before in
+    let start = at-read .before .before .before .before .before .before in
+    fit-places (start .args .file .now) (start .args .levels .now) (start .args .height) (start .args .width) (start .args .arena .now) (start .args .scratch .now) (start .args .output .now) _ (at-read .read .ensures) (at-if1 .if1 .left) _ (at-lent-number .lent-number .ensures) (let t = at-if2 .if2 .left in omega arith)
 
 same-length : tie.Need-same-length
 same-length c = search needs
@@ -46,7 +60,14 @@ same-length-3 c = search needs
 
 returns-3 : tie.Need-returns-3
 returns-3 c =
-    fit-done (c .before .before .before .before .before .before .before .before .before .before .before .before .before .before .before .before .before .before .before .before .before .args .file .now) (c .before .before .before .before .before .before .before .before .before .before .before .before .before .before .before .before .before .before .before .before .before .args .levels .now) (c .before .before .before .before .before .before .before .before .before .before .before .before .before .before .before .before .before .before .before .before .before .args .height) (c .before .before .before .before .before .before .before .before .before .before .before .before .before .before .before .before .before .before .before .before .before .args .width) (c .before .before .before .before .before .before .before .before .before .before .before .before .before .before .before .before .before .before .before .before .before .args .arena .now) (c .before .before .before .before .before .before .before .before .before .before .before .before .before .before .before .before .before .before .before .before .before .args .scratch .now) (c .before .before .before .before .before .before .before .before .before .before .before .before .before .before .before .before .before .before .before .before .before .args .output .now) _ (c .before .before .before .before .before .before .before .before .before .before .before .before .before .before .before .read .ensures) (c .before .before .before .before .before .before .before .before .before .before .before .before .before .if1 .left) _ (c .before .before .before .before .before .before .before .before .before .before .before .before .lent-number .ensures) (let t = c .before .before .before .before .before .before .before .before .before .before .before .if2 .left in omega arith) _ _ _ _ _ (c .before .before .before .before .before .before .before .before .before .build .ensures) (c .before .before .before .before .place-face .ensures)
+    let at-place-face = c .before .before .before .before in
+    let at-build = at-place-face .before .before .before .before .before in
+    let at-if2 = at-build .before .before in
+    let at-lent-number = at-if2 .before in
+    let at-if1 = at-lent-number .before in
+    let at-read = at-if1 .before .before in
+    let start = at-read .before .before .before .before .before .before in
+    fit-done (start .args .file .now) (start .args .levels .now) (start .args .height) (start .args .width) (start .args .arena .now) (start .args .scratch .now) (start .args .output .now) _ (at-read .read .ensures) (at-if1 .if1 .left) _ (at-lent-number .lent-number .ensures) (let t = at-if2 .if2 .left in omega arith) _ _ _ _ _ (at-build .build .ensures) (at-place-face .place-face .ensures)
 
 pub fit-spec : {M : Type 1} → statement M
 fit-spec =

@@ -80,7 +80,9 @@ lay-write-gauge-requires : (t : ℕ) → lay-lts.Need-write-gauge-requires (
   lay.Post,
 ) (lay-at t) lay.Post
 lay-write-gauge-requires t c κs =
-    let room = gauge-room _ _ _ _ _ _ (c .before .before .before .before .before .before .args .out .now) _ (c .before .before .before .before .before .before .pre .1) (c .before .before .before .part-word .ensures) (c .before .if1 .taken) in
+    let at-part-word = c .before .before .before in
+    let entry = at-part-word .before .before .before in
+    let room = gauge-room _ _ _ _ _ _ (entry .args .out .now) _ (entry .pre .1) (at-part-word .part-word .ensures) (c .before .if1 .taken) in
     let long = room .0 in
     let small = room .1 in
     (omega arith, omega arith)
@@ -119,7 +121,12 @@ lay-returns : (t : ℕ) → lay-lts.Need-returns (
   lay-below t,
   lay.Post,
 ) (lay-at t) lay.Post
-lay-returns t c = gauge-laid _ _ _ _ _ _ (c .before .before .before .before .before .before .before .before .before .args .out .now) _ _ _ (c .before .before .before .before .before .before .part-word .ensures) (c .before .before .before .before .if1 .taken) (c .before .before .before .before .before .item-at .ensures) (c .before .before .write-gauge .ensures)
+lay-returns t c =
+    let at-if1 = c .before .before .before .before in
+    let at-item-at = at-if1 .before in
+    let at-part-word = at-item-at .before in
+    let start = at-part-word .before .before .before in
+    gauge-laid _ _ _ _ _ _ (start .args .out .now) _ _ _ (at-part-word .part-word .ensures) (at-if1 .if1 .taken) (at-item-at .item-at .ensures) (c .before .before .write-gauge .ensures)
 
 lay-along-requires : (t : ℕ) → lay-lts.Need-along-requires (
   part-word-reads.Asked,
@@ -155,7 +162,10 @@ lay-sub-newer : (t : ℕ) → lay-lts.Need-sub-newer (
   lay-below t,
   lay.Post,
 ) (lay-at t) lay.Post
-lay-sub-newer t c = join-some _ _ _ _ _ _ (c .before .before .before .before .before .before .args .out .now) _ (c .before .before .before .part-word .ensures) (c .before .if1 .left) (c .before .before .before .before .before .before .pre .1)
+lay-sub-newer t c =
+    let at-part-word = c .before .before .before in
+    let entry = at-part-word .before .before .before in
+    join-some _ _ _ _ _ _ (entry .args .out .now) _ (at-part-word .part-word .ensures) (c .before .if1 .left) (entry .pre .1)
 
 lay-part-word-requires-2 : (t : ℕ) → lay-lts.Need-part-word-requires-2 (
   part-word-reads.Asked,
@@ -245,7 +255,11 @@ lay-take-item-requires : (t : ℕ) → lay-lts.Need-take-item-requires (
   lay-below t,
   lay.Post,
 ) (lay-at t) lay.Post
-lay-take-item-requires t c κs = older-takes _ _ _ _ _ _ (c .before .before .before .before .before .before .before .args .out .now) _ (c .before .before .before .before .part-word .ensures) (c .before .before .if1 .left) _ (c .part-word2 .ensures) _ _ (c .before .before .before .item-at .ensures) (c .before .along .ensures) (c .before .before .before .before .before .before .before .pre .1)
+lay-take-item-requires t c κs =
+    let at-item-at = c .before .before .before in
+    let at-part-word = at-item-at .before in
+    let entry = at-part-word .before .before .before in
+    older-takes _ _ _ _ _ _ (entry .args .out .now) _ (at-part-word .part-word .ensures) (c .before .before .if1 .left) _ (c .part-word2 .ensures) _ _ (at-item-at .item-at .ensures) (c .before .along .ensures) (entry .pre .1)
 
 lay-take-item-requires-2 : (t : ℕ) → lay-lts.Need-take-item-requires-2 (
   part-word-reads.Asked,
@@ -263,7 +277,12 @@ lay-take-item-requires-2 : (t : ℕ) → lay-lts.Need-take-item-requires-2 (
   lay-below t,
   lay.Post,
 ) (lay-at t) lay.Post
-lay-take-item-requires-2 t c κs = newer-takes _ _ _ _ _ _ (c .before .before .before .before .before .before .before .before .args .out .now) _ (c .before .before .before .before .before .part-word .ensures) (c .before .before .before .if1 .left) _ (c .before .part-word2 .ensures) _ _ (c .before .before .before .before .item-at .ensures) (c .before .before .along .ensures) (c .before .before .before .before .before .before .before .before .pre .1)
+lay-take-item-requires-2 t c κs =
+    let at-if1 = c .before .before .before in
+    let at-item-at = at-if1 .before in
+    let at-part-word = at-item-at .before in
+    let entry = at-part-word .before .before .before in
+    newer-takes _ _ _ _ _ _ (entry .args .out .now) _ (at-part-word .part-word .ensures) (at-if1 .if1 .left) _ (c .before .part-word2 .ensures) _ _ (at-item-at .item-at .ensures) (c .before .before .along .ensures) (entry .pre .1)
 
 lay-moved-requires : (t : ℕ) → lay-lts.Need-moved-requires (
   part-word-reads.Asked,
@@ -281,7 +300,13 @@ lay-moved-requires : (t : ℕ) → lay-lts.Need-moved-requires (
   lay-below t,
   lay.Post,
 ) (lay-at t) lay.Post
-lay-moved-requires t c κs = right-fits _ _ _ _ _ _ (c .before .before .before .before .before .before .before .before .before .args .out .now) _ (c .before .before .before .before .before .before .part-word .ensures) (c .before .before .before .before .if1 .left) _ (c .before .before .part-word2 .ensures) _ _ (c .before .before .before .before .before .item-at .ensures) (c .before .before .before .along .ensures) _ _ _ _ (c .before .take-item .ensures) (c .take-item2 .ensures) (c .before .before .before .before .before .before .before .before .before .pre .1)
+lay-moved-requires t c κs =
+    let at-along = c .before .before .before in
+    let at-if1 = at-along .before in
+    let at-item-at = at-if1 .before in
+    let at-part-word = at-item-at .before in
+    let entry = at-part-word .before .before .before in
+    right-fits _ _ _ _ _ _ (entry .args .out .now) _ (at-part-word .part-word .ensures) (at-if1 .if1 .left) _ (c .before .before .part-word2 .ensures) _ _ (at-item-at .item-at .ensures) (at-along .along .ensures) _ _ _ _ (c .before .take-item .ensures) (c .take-item2 .ensures) (entry .pre .1)
 
 lay-moved-requires-2 : (t : ℕ) → lay-lts.Need-moved-requires-2 (
   part-word-reads.Asked,
@@ -299,7 +324,14 @@ lay-moved-requires-2 : (t : ℕ) → lay-lts.Need-moved-requires-2 (
   lay-below t,
   lay.Post,
 ) (lay-at t) lay.Post
-lay-moved-requires-2 t c κs = above-fits _ _ _ _ _ _ (c .before .before .before .before .before .before .before .before .before .before .args .out .now) _ (c .before .before .before .before .before .before .before .part-word .ensures) (c .before .before .before .before .before .if1 .left) _ (c .before .before .before .part-word2 .ensures) _ _ (c .before .before .before .before .before .before .item-at .ensures) (c .before .before .before .before .along .ensures) _ _ _ _ (c .before .before .take-item .ensures) (c .before .take-item2 .ensures) (c .before .before .before .before .before .before .before .before .before .before .pre .1)
+lay-moved-requires-2 t c κs =
+    let at-part-word2 = c .before .before .before in
+    let at-along = at-part-word2 .before in
+    let at-if1 = at-along .before in
+    let at-item-at = at-if1 .before in
+    let at-part-word = at-item-at .before in
+    let entry = at-part-word .before .before .before in
+    above-fits _ _ _ _ _ _ (entry .args .out .now) _ (at-part-word .part-word .ensures) (at-if1 .if1 .left) _ (at-part-word2 .part-word2 .ensures) _ _ (at-item-at .item-at .ensures) (at-along .along .ensures) _ _ _ _ (c .before .before .take-item .ensures) (c .before .take-item2 .ensures) (entry .pre .1)
 
 lay-lay-requires : (t : ℕ) → lay-lts.Need-lay-requires (
   part-word-reads.Asked,
@@ -317,7 +349,16 @@ lay-lay-requires : (t : ℕ) → lay-lts.Need-lay-requires (
   lay-below t,
   lay.Post,
 ) (lay-at t) lay.Post
-lay-lay-requires t c κs = lay-older _ _ _ _ _ _ (c .before .before .before .before .before .before .before .before .before .before .before .before .args .out .now) _ (c .before .before .before .before .before .before .before .before .before .part-word .ensures) (c .before .before .before .before .before .before .before .if1 .left) _ (c .before .before .before .before .before .part-word2 .ensures) _ _ (c .before .before .before .before .before .before .before .before .item-at .ensures) (c .before .before .before .before .before .before .along .ensures) _ _ _ _ (c .before .before .before .before .take-item .ensures) (c .before .before .before .take-item2 .ensures) _ (c .before .before .before .before .before .before .before .before .before .before .before .before .pre .0) (c .before .before .before .before .before .before .before .before .before .before .before .before .pre .1)
+lay-lay-requires t c κs =
+    let at-take-item2 = c .before .before .before in
+    let at-take-item = at-take-item2 .before in
+    let at-part-word2 = at-take-item .before in
+    let at-along = at-part-word2 .before in
+    let at-if1 = at-along .before in
+    let at-item-at = at-if1 .before in
+    let at-part-word = at-item-at .before in
+    let entry = at-part-word .before .before .before in
+    lay-older _ _ _ _ _ _ (entry .args .out .now) _ (at-part-word .part-word .ensures) (at-if1 .if1 .left) _ (at-part-word2 .part-word2 .ensures) _ _ (at-item-at .item-at .ensures) (at-along .along .ensures) _ _ _ _ (at-take-item .take-item .ensures) (at-take-item2 .take-item2 .ensures) _ (entry .pre .0) (entry .pre .1)
 
 lay-mul-lay : (t : ℕ) → lay-lts.Need-mul-lay (
   part-word-reads.Asked,
@@ -425,7 +466,19 @@ lay-lay-requires-2 : (t : ℕ) → lay-lts.Need-lay-requires-2 (
   lay-below t,
   lay.Post,
 ) (lay-at t) lay.Post
-lay-lay-requires-2 t c κs = lay-newer _ _ _ _ _ _ (c .before .before .before .before .before .before .before .before .before .before .before .before .before .before .before .before .args .out .now) _ (c .before .before .before .before .before .before .before .before .before .before .before .before .before .part-word .ensures) (c .before .before .before .before .before .before .before .before .before .before .before .if1 .left) _ (c .before .before .before .before .before .before .before .before .before .part-word2 .ensures) _ _ (c .before .before .before .before .before .before .before .before .before .before .before .before .item-at .ensures) (c .before .before .before .before .before .before .before .before .before .before .along .ensures) _ _ _ _ (c .before .before .before .before .before .before .before .before .take-item .ensures) (c .before .before .before .before .before .before .before .take-item2 .ensures) _ _ (c .before .before .before .before .before .before .moved .ensures) (c .before .before .before .before .before .moved2 .ensures) (c .before .before .before .lay .last .1 .1 .1 .1 .1 .1 .0) (c .before .before .before .lay .kept .1 .1 .1 .1 .1 .1 .0) _ (c .before .before .before .before .before .before .before .before .before .before .before .before .before .before .before .before .pre .0) (c .before .before .before .before .before .before .before .before .before .before .before .before .before .before .before .before .pre .1)
+lay-lay-requires-2 t c κs =
+    let at-lay = c .before .before .before in
+    let at-moved2 = at-lay .before .before in
+    let at-moved = at-moved2 .before in
+    let at-take-item2 = at-moved .before in
+    let at-take-item = at-take-item2 .before in
+    let at-part-word2 = at-take-item .before in
+    let at-along = at-part-word2 .before in
+    let at-if1 = at-along .before in
+    let at-item-at = at-if1 .before in
+    let at-part-word = at-item-at .before in
+    let entry = at-part-word .before .before .before in
+    lay-newer _ _ _ _ _ _ (entry .args .out .now) _ (at-part-word .part-word .ensures) (at-if1 .if1 .left) _ (at-part-word2 .part-word2 .ensures) _ _ (at-item-at .item-at .ensures) (at-along .along .ensures) _ _ _ _ (at-take-item .take-item .ensures) (at-take-item2 .take-item2 .ensures) _ _ (at-moved .moved .ensures) (at-moved2 .moved2 .ensures) (at-lay .lay .last .1 .1 .1 .1 .1 .1 .0) (at-lay .lay .kept .1 .1 .1 .1 .1 .1 .0) _ (entry .pre .0) (entry .pre .1)
 
 lay-same-length-2 : (t : ℕ) → lay-lts.Need-same-length-2 (
   part-word-reads.Asked,
@@ -461,7 +514,19 @@ lay-returns-2 : (t : ℕ) → lay-lts.Need-returns-2 (
   lay-below t,
   lay.Post,
 ) (lay-at t) lay.Post
-lay-returns-2 t c = join-laid _ _ _ _ _ _ (c .before .before .before .before .before .before .before .before .before .before .before .before .before .before .before .before .before .before .before .args .out .now) _ (c .before .before .before .before .before .before .before .before .before .before .before .before .before .before .before .before .part-word .ensures) (c .before .before .before .before .before .before .before .before .before .before .before .before .before .before .if1 .left) _ (c .before .before .before .before .before .before .before .before .before .before .before .before .part-word2 .ensures) _ _ (c .before .before .before .before .before .before .before .before .before .before .before .before .before .before .before .item-at .ensures) (c .before .before .before .before .before .before .before .before .before .before .before .before .before .along .ensures) _ _ _ _ (c .before .before .before .before .before .before .before .before .before .before .before .take-item .ensures) (c .before .before .before .before .before .before .before .before .before .before .take-item2 .ensures) _ _ (c .before .before .before .before .before .before .before .before .before .moved .ensures) (c .before .before .before .before .before .before .before .before .moved2 .ensures) (c .before .before .before .before .before .before .lay .last .1 .1 .1 .1 .1 .1 .0) (c .before .before .before .before .before .before .lay .kept .1 .1 .1 .1 .1 .1 .0) _ (c .before .before .before .before .before .before .lay .ensures) (c .before .before .lay2 .ensures)
+lay-returns-2 t c =
+    let at-lay = c .before .before .before .before .before .before in
+    let at-moved2 = at-lay .before .before in
+    let at-moved = at-moved2 .before in
+    let at-take-item2 = at-moved .before in
+    let at-take-item = at-take-item2 .before in
+    let at-part-word2 = at-take-item .before in
+    let at-along = at-part-word2 .before in
+    let at-if1 = at-along .before in
+    let at-item-at = at-if1 .before in
+    let at-part-word = at-item-at .before in
+    let start = at-part-word .before .before .before in
+    join-laid _ _ _ _ _ _ (start .args .out .now) _ (at-part-word .part-word .ensures) (at-if1 .if1 .left) _ (at-part-word2 .part-word2 .ensures) _ _ (at-item-at .item-at .ensures) (at-along .along .ensures) _ _ _ _ (at-take-item .take-item .ensures) (at-take-item2 .take-item2 .ensures) _ _ (at-moved .moved .ensures) (at-moved2 .moved2 .ensures) (at-lay .lay .last .1 .1 .1 .1 .1 .1 .0) (at-lay .lay .kept .1 .1 .1 .1 .1 .1 .0) _ (at-lay .lay .ensures) (c .before .before .lay2 .ensures)
 
 pub +lay-spec : {M : Type 1} → statement M
 +lay-spec = close μ-lay λ t. lay-lts.spec (

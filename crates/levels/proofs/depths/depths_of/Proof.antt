@@ -39,7 +39,10 @@ slice-aggregate-add-gauge-2 c = search needs
 
 add-gauge-requires : tie.Need-add-gauge-requires Inv-loop μ-loop
 add-gauge-requires c κs =
-    gauge-room _ _ _ _ _ (c .before .before .before .before .before .before .before .loop .inv) (c .before .before .before .before .before .before .loop-test .taken) (c .before .before .before .before .if1 .taken)
+    let at-if1 = c .before .before .before .before in
+    let at-loop-test = at-if1 .before .before in
+    let at-loop = at-loop-test .before in
+    gauge-room _ _ _ _ _ (at-loop .loop .inv) (at-loop-test .loop-test .taken) (at-if1 .if1 .taken)
 
 add-parts : tie.Need-add-parts Inv-loop μ-loop
 add-parts c = search needs
@@ -74,7 +77,10 @@ add-join-requires c κs =
 
 sub-parts : tie.Need-sub-parts Inv-loop μ-loop
 sub-parts c =
-    let two = join-parts _ _ _ _ _ (c .before .before .before .before .before .before .before .before .loop .inv) (c .before .before .before .before .before .before .before .loop-test .taken) (c .before .before .before .before .before .if1 .left) in
+    let at-if1 = c .before .before .before .before .before in
+    let at-loop-test = at-if1 .before .before in
+    let at-loop = at-loop-test .before in
+    let two = join-parts _ _ _ _ _ (at-loop .loop .inv) (at-loop-test .loop-test .taken) (at-if1 .if1 .left) in
     omega arith
 
 add-at-3 : tie.Need-add-at-3 Inv-loop μ-loop

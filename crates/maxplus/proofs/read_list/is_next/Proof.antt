@@ -1,4 +1,5 @@
 -- `maxplus::read_list::is_next` meets its contract.
+-- Each way out decides it: the number or the level is out of its range, or both are in and the due words are compared.
 use borrow.Author.Needs.{needs}
 use Rattle.maxplus.proofs.OneRecord.{next-links}
 use Rattle.maxplus.proofs.read_list.is_next.Statement.{statement}

@@ -1,4 +1,5 @@
 -- `maxplus::read_list::item_at` meets its contract.
+-- It reads m, and the sum of p and the links above the record's level is the one that `risen` takes.
 use borrow.Author.Needs.{needs}
 use Rattle.maxplus.proofs.OneRecord.{item-true}
 use Rattle.maxplus.proofs.read_list.item_at.Statement.{statement}

@@ -1,4 +1,5 @@
 -- `maxplus::read_list::item_or_place` meets its contract.
+-- For each way out a law of `OneRecord` takes the tests of the place that lead to it.
 use borrow.Author.Needs.{needs}
 use Rattle.maxplus.proofs.OneRecord.{place-low, place-high, place-in}
 use Rattle.maxplus.proofs.read_list.item_or_place.Statement.{statement}

@@ -1,4 +1,5 @@
 -- `maxplus::read_list::read` meets its contract, on any arena and any place.
+-- A short arena and a head of another level are refused as the definition refuses them, and `read_from_head` answers for all others.
 use borrow.Author.Needs.{needs}
 use Rattle.maxplus.proofs.Answering.{short-arena, no-head}
 use Rattle.maxplus.proofs.read_list.read.Statement.{statement}

@@ -19,13 +19,20 @@ slice-aggregate-open-sums-2 : tie.Need-slice-aggregate-open-sums-2
 slice-aggregate-open-sums-2 c = search needs
 
 open-sums-requires : tie.Need-open-sums-requires
-open-sums-requires c κs = (cut-readable _ _ (c .before .before .before .before .before .before .before .before .before .pre .0) _ (c .before .before .before .before .before .before .before .before .before .pre .1) (c .before .before .before .before .before .before .before .before .before .pre .2) (c .before .before .before .before .before .before .before .before .before .pre .3) _ (c .before .before .before .before .before .before .before .before .before .pre .4) _ (c .before .before .before .before .search .ensures (c .before .before .before .before .before .before .before .before .before .pre .2 ∷ c .before .before .before .before .before .before .before .before .before .pre .3) (c .before .before .before .before .before .before .before .before .before .pre .4 .list)), search needs)
+open-sums-requires c κs =
+    let at-search = c .before .before .before .before in
+    let entry = at-search .before .before .before .before .before in
+    (cut-readable _ _ (entry .pre .0) _ (entry .pre .1) (entry .pre .2) (entry .pre .3) _ (entry .pre .4) _ (at-search .search .ensures (entry .pre .2 ∷ entry .pre .3) (entry .pre .4 .list)), search needs)
 
 slice-aggregate-settle : tie.Need-slice-aggregate-settle
 slice-aggregate-settle c = search needs
 
 settle-requires : tie.Need-settle-requires
-settle-requires c κs = (_, _, can-settle _ _ (c .before .before .before .before .before .before .before .before .before .before .before .before .before .before .pre .0) _ (c .before .before .before .before .before .before .before .before .before .before .before .before .before .before .pre .1) (c .before .before .before .before .before .before .before .before .before .before .before .before .before .before .pre .2) (c .before .before .before .before .before .before .before .before .before .before .before .before .before .before .pre .3) _ (c .before .before .before .before .before .before .before .before .before .before .before .before .before .before .pre .4) _ (c .before .before .before .before .before .before .before .before .before .search .ensures (c .before .before .before .before .before .before .before .before .before .before .before .before .before .before .pre .2 ∷ c .before .before .before .before .before .before .before .before .before .before .before .before .before .before .pre .3) (c .before .before .before .before .before .before .before .before .before .before .before .before .before .before .pre .4 .list)) _ _ (c .before .before .before .before .open-sums .ensures))
+settle-requires c κs =
+    let at-open-sums = c .before .before .before .before in
+    let at-search = at-open-sums .before .before .before .before .before in
+    let entry = at-search .before .before .before .before .before in
+    (_, _, can-settle _ _ (entry .pre .0) _ (entry .pre .1) (entry .pre .2) (entry .pre .3) _ (entry .pre .4) _ (at-search .search .ensures (entry .pre .2 ∷ entry .pre .3) (entry .pre .4 .list)) _ _ (at-open-sums .open-sums .ensures))
 
 slice-aggregate-relink : tie.Need-slice-aggregate-relink
 slice-aggregate-relink c = search needs
@@ -34,7 +41,12 @@ slice-aggregate-relink-2 : tie.Need-slice-aggregate-relink-2
 slice-aggregate-relink-2 c = search needs
 
 relink-requires : tie.Need-relink-requires
-relink-requires c κs = (c .before .before .before .before .before .before .before .before .before .before .before .before .before .before .before .before .before .before .before .before .before .pre .0, c .before .before .before .before .before .before .before .before .before .before .before .before .before .before .before .before .before .before .before .before .before .pre .1, _, _, can-relink _ _ (c .before .before .before .before .before .before .before .before .before .before .before .before .before .before .before .before .before .before .before .before .before .pre .0) _ (c .before .before .before .before .before .before .before .before .before .before .before .before .before .before .before .before .before .before .before .before .before .pre .1) (c .before .before .before .before .before .before .before .before .before .before .before .before .before .before .before .before .before .before .before .before .before .pre .2) (c .before .before .before .before .before .before .before .before .before .before .before .before .before .before .before .before .before .before .before .before .before .pre .3) _ (c .before .before .before .before .before .before .before .before .before .before .before .before .before .before .before .before .before .before .before .before .before .pre .4) _ (c .before .before .before .before .before .before .before .before .before .before .before .before .before .before .before .before .search .ensures (c .before .before .before .before .before .before .before .before .before .before .before .before .before .before .before .before .before .before .before .before .before .pre .2 ∷ c .before .before .before .before .before .before .before .before .before .before .before .before .before .before .before .before .before .before .before .before .before .pre .3) (c .before .before .before .before .before .before .before .before .before .before .before .before .before .before .before .before .before .before .before .before .before .pre .4 .list)) _ _ (c .before .before .before .before .before .before .before .before .before .before .before .open-sums .ensures) _ _ (c .before .before .before .before .before .before .settle .ensures _ _ (can-settle _ _ (c .before .before .before .before .before .before .before .before .before .before .before .before .before .before .before .before .before .before .before .before .before .pre .0) _ (c .before .before .before .before .before .before .before .before .before .before .before .before .before .before .before .before .before .before .before .before .before .pre .1) (c .before .before .before .before .before .before .before .before .before .before .before .before .before .before .before .before .before .before .before .before .before .pre .2) (c .before .before .before .before .before .before .before .before .before .before .before .before .before .before .before .before .before .before .before .before .before .pre .3) _ (c .before .before .before .before .before .before .before .before .before .before .before .before .before .before .before .before .before .before .before .before .before .pre .4) _ (c .before .before .before .before .before .before .before .before .before .before .before .before .before .before .before .before .search .ensures (c .before .before .before .before .before .before .before .before .before .before .before .before .before .before .before .before .before .before .before .before .before .pre .2 ∷ c .before .before .before .before .before .before .before .before .before .before .before .before .before .before .before .before .before .before .before .before .before .pre .3) (c .before .before .before .before .before .before .before .before .before .before .before .before .before .before .before .before .before .before .before .before .before .pre .4 .list)) _ _ (c .before .before .before .before .before .before .before .before .before .before .before .open-sums .ensures))))
+relink-requires c κs =
+    let at-settle = c .before .before .before .before .before .before in
+    let at-open-sums = at-settle .before .before .before .before .before in
+    let at-search = at-open-sums .before .before .before .before .before in
+    let entry = at-search .before .before .before .before .before in
+    (entry .pre .0, entry .pre .1, _, _, can-relink _ _ (entry .pre .0) _ (entry .pre .1) (entry .pre .2) (entry .pre .3) _ (entry .pre .4) _ (at-search .search .ensures (entry .pre .2 ∷ entry .pre .3) (entry .pre .4 .list)) _ _ (at-open-sums .open-sums .ensures) _ _ (at-settle .settle .ensures _ _ (can-settle _ _ (entry .pre .0) _ (entry .pre .1) (entry .pre .2) (entry .pre .3) _ (entry .pre .4) _ (at-search .search .ensures (entry .pre .2 ∷ entry .pre .3) (entry .pre .4 .list)) _ _ (at-open-sums .open-sums .ensures))))
 
 same-length : tie.Need-same-length
 same-length c = search needs
@@ -44,7 +56,11 @@ same-length-2 c = search needs
 
 returns : tie.Need-returns
 returns c hc cs r rs w =
-    moved _ _ hc _ cs r rs _ w _ (c .before .before .before .before .before .before .before .before .before .before .before .before .before .before .before .before .before .before .before .before .before .search .ensures (r ∷ rs) (w .list)) _ _ (c .before .before .before .before .before .before .before .before .before .before .before .before .before .before .before .before .open-sums .ensures) _ _ (c .before .before .before .before .before .before .before .before .before .before .before .settle .ensures _ _ (can-settle _ _ hc _ cs r rs _ w _ (c .before .before .before .before .before .before .before .before .before .before .before .before .before .before .before .before .before .before .before .before .before .search .ensures (r ∷ rs) (w .list)) _ _ (c .before .before .before .before .before .before .before .before .before .before .before .before .before .before .before .before .open-sums .ensures))) _ _ (c .before .before .before .before .relink .ensures hc cs _ _ (can-relink _ _ hc _ cs r rs _ w _ (c .before .before .before .before .before .before .before .before .before .before .before .before .before .before .before .before .before .before .before .before .before .search .ensures (r ∷ rs) (w .list)) _ _ (c .before .before .before .before .before .before .before .before .before .before .before .before .before .before .before .before .open-sums .ensures) _ _ (c .before .before .before .before .before .before .before .before .before .before .before .settle .ensures _ _ (can-settle _ _ hc _ cs r rs _ w _ (c .before .before .before .before .before .before .before .before .before .before .before .before .before .before .before .before .before .before .before .before .before .search .ensures (r ∷ rs) (w .list)) _ _ (c .before .before .before .before .before .before .before .before .before .before .before .before .before .before .before .before .open-sums .ensures)))))
+    let at-relink = c .before .before .before .before in
+    let at-settle = at-relink .before .before .before .before .before .before .before in
+    let at-open-sums = at-settle .before .before .before .before .before in
+    let at-search = at-open-sums .before .before .before .before .before in
+    moved _ _ hc _ cs r rs _ w _ (at-search .search .ensures (r ∷ rs) (w .list)) _ _ (at-open-sums .open-sums .ensures) _ _ (at-settle .settle .ensures _ _ (can-settle _ _ hc _ cs r rs _ w _ (at-search .search .ensures (r ∷ rs) (w .list)) _ _ (at-open-sums .open-sums .ensures))) _ _ (at-relink .relink .ensures hc cs _ _ (can-relink _ _ hc _ cs r rs _ w _ (at-search .search .ensures (r ∷ rs) (w .list)) _ _ (at-open-sums .open-sums .ensures) _ _ (at-settle .settle .ensures _ _ (can-settle _ _ hc _ cs r rs _ w _ (at-search .search .ensures (r ∷ rs) (w .list)) _ _ (at-open-sums .open-sums .ensures)))))
 
 pub advance-spec : {M : Type 1} → statement M
 advance-spec =

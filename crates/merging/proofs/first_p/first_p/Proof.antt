@@ -2,12 +2,13 @@
 -- The loop keeps `Adding`, the wrapped sum up to link k; the measure is the links left.
 use Prim.Native.Nat.{_-_}
 use borrow.Author.Needs.{needs}
-use Rattle.merging.proofs.FirstLaws.{Adding, adding-start, adding-more, adding-done}
+use Rattle.arena.specs.Arena.{adjust}
+use Rattle.arena.proofs.Summing.{Adding, adding-start, adding-more, adding-done}
 use Rattle.merging.proofs.first_p.first_p.Statement.{statement}
 use Rattle.merging.proofs.first_p.first_p.Tie as tie
 
 abbrev Inv-loop : tie.InvT-loop
-Inv-loop arena head r p₀ k₀ p k = Adding arena head r p k
+Inv-loop arena head r p₀ k₀ p k = Adding arena r (adjust arena head) p k
 
 abbrev μ-loop : tie.MeasureT-loop
 μ-loop arena head r p₀ k₀ p k = 8 - k

@@ -23,22 +23,42 @@ add-raise : tie.Need-add-raise Inv-loop μ-loop
 add-raise c = search needs
 
 raise-requires-2 : tie.Need-raise-requires-2 Inv-loop μ-loop
-raise-requires-2 c κs = let has = raising-has _ _ _ _ _ _ _ (c .before .before .before .before .before .before .before .before .pre .0) (c .before .before .before .before .before .before .loop .inv) (c .before .before .before .before .before .loop-test .taken) (c .before .before .before .before .before .before .before .before .pre .1 .0) (c .before .before .before .before .before .before .before .before .pre .1 .1) in omega arith
+raise-requires-2 c κs =
+    let at-loop-test = c .before .before .before .before .before in
+    let at-loop = at-loop-test .before in
+    let entry = at-loop .before .before in
+    let has = raising-has _ _ _ _ _ _ _ (entry .pre .0) (at-loop .loop .inv) (at-loop-test .loop-test .taken) (entry .pre .1 .0) (entry .pre .1 .1) in omega arith
 
 add-get : tie.Need-add-get Inv-loop μ-loop
 add-get c = search needs
 
 get-requires : tie.Need-get-requires Inv-loop μ-loop
-get-requires c κs = let has = raising-has _ _ _ _ _ _ _ (c .before .before .before .before .before .before .before .before .before .before .before .before .pre .0) (c .before .before .before .before .before .before .before .before .before .before .loop .inv) (c .before .before .before .before .before .before .before .before .before .loop-test .taken) (c .before .before .before .before .before .before .before .before .before .before .before .before .pre .1 .0) (c .before .before .before .before .before .before .before .before .before .before .before .before .pre .1 .1) in omega arith
+get-requires c κs =
+    let at-loop-test = c .before .before .before .before .before .before .before .before .before in
+    let at-loop = at-loop-test .before in
+    let entry = at-loop .before .before in
+    let has = raising-has _ _ _ _ _ _ _ (entry .pre .0) (at-loop .loop .inv) (at-loop-test .loop-test .taken) (entry .pre .1 .0) (entry .pre .1 .1) in omega arith
 
 wide-requires : tie.Need-wide-requires Inv-loop μ-loop
 wide-requires c κs = search needs
 
 loop-less : tie.Need-loop-less Inv-loop μ-loop
-loop-less c = raising-less _ _ _ _ _ _ _ (c .before .before .before .before .before .before .before .before .before .before .before .before .before .before .pre .0) (c .before .before .before .before .before .before .before .before .before .before .before .before .loop .inv) (c .before .before .before .before .before .before .before .before .before .before .before .loop-test .taken) _ _ _ (raising-has _ _ _ _ _ _ _ (c .before .before .before .before .before .before .before .before .before .before .before .before .before .before .pre .0) (c .before .before .before .before .before .before .before .before .before .before .before .before .loop .inv) (c .before .before .before .before .before .before .before .before .before .before .before .loop-test .taken) (c .before .before .before .before .before .before .before .before .before .before .before .before .before .before .pre .1 .0) (c .before .before .before .before .before .before .before .before .before .before .before .before .before .before .pre .1 .1)) (c .before .before .before .before .before .before .before .before .before .raise .ensures) (c .before .before .before .before .before .raise2 .ensures) (c .wide .ensures ∙ c .before .get .ensures) (c .before .before .before .before .before .before .before .before .before .before .before .before .before .before .pre .1 .0) (c .before .before .before .before .before .before .before .before .before .before .before .before .before .before .pre .1 .1)
+loop-less c =
+    let at-raise2 = c .before .before .before .before .before in
+    let at-raise = at-raise2 .before .before .before .before in
+    let at-loop-test = at-raise .before .before in
+    let at-loop = at-loop-test .before in
+    let entry = at-loop .before .before in
+    raising-less _ _ _ _ _ _ _ (entry .pre .0) (at-loop .loop .inv) (at-loop-test .loop-test .taken) _ _ _ (raising-has _ _ _ _ _ _ _ (entry .pre .0) (at-loop .loop .inv) (at-loop-test .loop-test .taken) (entry .pre .1 .0) (entry .pre .1 .1)) (at-raise .raise .ensures) (at-raise2 .raise2 .ensures) (c .wide .ensures ∙ c .before .get .ensures) (entry .pre .1 .0) (entry .pre .1 .1)
 
 loop-again : tie.Need-loop-again Inv-loop μ-loop
-loop-again c = raising-turn _ _ _ _ _ _ _ (c .before .before .before .before .before .before .before .before .before .before .before .before .before .before .pre .0) (c .before .before .before .before .before .before .before .before .before .before .before .before .loop .inv) (c .before .before .before .before .before .before .before .before .before .before .before .loop-test .taken) _ _ _ (raising-has _ _ _ _ _ _ _ (c .before .before .before .before .before .before .before .before .before .before .before .before .before .before .pre .0) (c .before .before .before .before .before .before .before .before .before .before .before .before .loop .inv) (c .before .before .before .before .before .before .before .before .before .before .before .loop-test .taken) (c .before .before .before .before .before .before .before .before .before .before .before .before .before .before .pre .1 .0) (c .before .before .before .before .before .before .before .before .before .before .before .before .before .before .pre .1 .1)) (c .before .before .before .before .before .before .before .before .before .raise .ensures) (c .before .before .before .before .before .raise2 .ensures) (c .wide .ensures ∙ c .before .get .ensures)
+loop-again c =
+    let at-raise2 = c .before .before .before .before .before in
+    let at-raise = at-raise2 .before .before .before .before in
+    let at-loop-test = at-raise .before .before in
+    let at-loop = at-loop-test .before in
+    let entry = at-loop .before .before in
+    raising-turn _ _ _ _ _ _ _ (entry .pre .0) (at-loop .loop .inv) (at-loop-test .loop-test .taken) _ _ _ (raising-has _ _ _ _ _ _ _ (entry .pre .0) (at-loop .loop .inv) (at-loop-test .loop-test .taken) (entry .pre .1 .0) (entry .pre .1 .1)) (at-raise .raise .ensures) (at-raise2 .raise2 .ensures) (c .wide .ensures ∙ c .before .get .ensures)
 
 same-length : tie.Need-same-length Inv-loop μ-loop
 same-length c = c .before .loop .inv .length-kept

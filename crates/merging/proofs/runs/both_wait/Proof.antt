@@ -1,27 +1,21 @@
--- `merging::runs::both_wait` meets its contract: the first forward of a head is 0 where its list is empty.
+-- `merging::runs::both_wait` meets its contract.
+-- It tests the first forward of each head, as `bothWait` does, and the second one only where the first is not 0.
 use mathlib.Core.Path.{refl}
 use borrow.Author.Needs.{needs}
 use Rattle.merging.proofs.RunsLaws.{none-waits, newer-waits}
 use Rattle.merging.proofs.runs.both_wait.Statement.{statement}
 use Rattle.merging.proofs.runs.both_wait.Tie as tie
-use Rattle.merging.proofs.runs.both_wait.Reads as reads
-use Rattle.merging.proofs.runs.both_wait.Lts as lts
-use Rattle.arena.proofs.words.get.Reads as get-reads
 
--- src/runs.rt:15:8
 get-requires : tie.Need-get-requires
 get-requires c κs = search needs
 
--- src/runs.rt:16:9
 returns : tie.Need-returns
 returns c =
     none-waits _ _ _ _ (c .before .get .ensures) (c .if1 .taken)
 
--- src/runs.rt:18:10
 get-requires-2 : tie.Need-get-requires-2
 get-requires-2 c κs = search needs
 
--- src/runs.rt:11:1
 returns-2 : tie.Need-returns-2
 returns-2 c =
     newer-waits _ _ _ _ _ _ (c .before .before .get .ensures) (c .before .if1 .left) (c .get2 .ensures) refl

@@ -92,7 +92,13 @@ loop-less : tie.Need-loop-less Inv-loop μ-loop
 loop-less c = search needs
 
 loop-again : tie.Need-loop-again Inv-loop μ-loop
-loop-again c = settling-turn _ _ _ _ _ _ _ _ _ _ (c .before .before .before .before .before .before .before .before .before .before .before .loop .inv) (c .before .before .before .before .before .before .before .before .before .before .loop-test .taken) _ _ _ (omega arith) (c .before .before .before .before .before .before .before .wide2 .ensures ∙ c .before .before .before .before .before .before .before .before .get2 .ensures) (c .before .before .before .before .before .raise-chain .ensures) (c .next-carry .ensures)
+loop-again c =
+    let at-raise-chain = c .before .before .before .before .before in
+    let at-wide2 = at-raise-chain .before .before in
+    let at-get2 = at-wide2 .before in
+    let at-loop-test = at-get2 .before .before in
+    let at-loop = at-loop-test .before in
+    settling-turn _ _ _ _ _ _ _ _ _ _ (at-loop .loop .inv) (at-loop-test .loop-test .taken) _ _ _ (omega arith) (at-wide2 .wide2 .ensures ∙ at-get2 .get2 .ensures) (at-raise-chain .raise-chain .ensures) (c .next-carry .ensures)
 
 same-length : tie.Need-same-length Inv-loop μ-loop
 same-length c = search needs

@@ -38,8 +38,9 @@ loop-again c =
 
 returns : tie.Need-returns Inv-loop μ-loop
 returns c =
+    let start = c .before .before .before .before in
     let end : c .before .loop .k ≡ 8 = search needs in
-    subst (λ (k : ℕ). Above (c .before .before .before .before .args .arena .now) (c .before .before .before .before .args .head) (c .before .before .before .before .args .cutc .now) (c .before .before .before .before .args .n) k (c .before .loop .d)) end (c .before .loop .inv .2)
+    subst (λ (k : ℕ). Above (start .args .arena .now) (start .args .head) (start .args .cutc .now) (start .args .n) k (c .before .loop .d)) end (c .before .loop .inv .2)
 
 pub sums-above-spec : {M : Type 1} → statement M
 sums-above-spec =

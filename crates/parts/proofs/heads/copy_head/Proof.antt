@@ -13,35 +13,27 @@ Inv-loop arena₀ from to j₀ arena j = Copying arena₀ from to arena j
 abbrev μ-loop : tie.MeasureT-loop
 μ-loop arena₀ from to j₀ arena j = stride - j
 
--- src/heads.rt:17:5
 loop-holds : tie.Need-loop-holds Inv-loop μ-loop
 loop-holds c = copying-start _ _ _
 
--- src/heads.rt:18:13
 get-requires : tie.Need-get-requires Inv-loop μ-loop
 get-requires c κs = search (needs, copying-has)
 
--- src/heads.rt:19:9
 store-requires : tie.Need-store-requires Inv-loop μ-loop
 store-requires c κs = search (needs, copying-has)
 
--- src/heads.rt:20:9
 add-j : tie.Need-add-j Inv-loop μ-loop
 add-j c = search needs
 
--- src/heads.rt:17:5
 loop-less : tie.Need-loop-less Inv-loop μ-loop
 loop-less c = search needs
 
--- src/heads.rt:17:5
 loop-again : tie.Need-loop-again Inv-loop μ-loop
 loop-again c = search (needs, copying-more)
 
--- src/heads.rt:12:1
 same-length : tie.Need-same-length Inv-loop μ-loop
 same-length c = search needs
 
--- src/heads.rt:12:1
 returns : tie.Need-returns Inv-loop μ-loop
 returns c = search (needs, copying-done)
 

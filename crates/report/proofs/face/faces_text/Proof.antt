@@ -23,8 +23,12 @@ same-length c = search needs
 
 returns-2 : tie.Need-returns-2
 returns-2 c =
+    let at-if2 = c .before .before .before .before in
+    let at-read = at-if2 .before .before in
+    let at-if1 = at-read .before in
+    let start = at-if1 .before .before .before in
     let e = c .before .before .render-refused .ensures in
-    (text-long (c .before .before .before .before .before .before .before .before .before .before .args .file .now) (c .before .before .before .before .before .before .before .before .before .before .args .text .now) _ _ (c .before .before .before .before .before .before .before .if1 .left) (text-refused (c .before .before .before .before .before .before .before .before .before .before .args .file .now) (c .before .before .before .before .before .before .read .result) (c .before .before .before .before .before .before .read .ensures) (c .before .before .before .before .if2 .taken) _ _ _ (e .0)), (omega (arith, e .1 .0), e .1 .1))
+    (text-long (start .args .file .now) (start .args .text .now) _ _ (at-if1 .if1 .left) (text-refused (start .args .file .now) (at-read .read .result) (at-read .read .ensures) (at-if2 .if2 .taken) _ _ _ (e .0)), (omega (arith, e .1 .0), e .1 .1))
 
 levels-room-requires : tie.Need-levels-room-requires
 levels-room-requires c κs = search needs
@@ -36,22 +40,31 @@ array-borrow-prefix-levels c =
 
 slice-aggregate-taken-text : tie.Need-slice-aggregate-taken-text
 slice-aggregate-taken-text c =
-    let few = sizes-few (c .before .before .before .before .before .before .before .before .args .file .now) (c .before .before .before .before .read .result) (c .before .before .before .before .read .ensures) (c .before .before .if2 .left) in
-    part-counted (c .before .before .before .before .read .result .sizes) (c .before .levels-room .result) (omega (arith, c .before .levels-room .ensures))
+    let at-read = c .before .before .before .before in
+    let start = at-read .before .before .before .before in
+    let few = sizes-few (start .args .file .now) (at-read .read .result) (at-read .read .ensures) (c .before .before .if2 .left) in
+    part-counted (at-read .read .result .sizes) (c .before .levels-room .result) (omega (arith, c .before .levels-room .ensures))
 
 taken-text-requires : tie.Need-taken-text-requires
-taken-text-requires c κs = (
-  tallied-part (c .before .before .before .before .before .before .before .before .before .args .file .now) (c .before .before .before .before .before .read .result) (c .before .before .before .before .before .read .ensures) (c .before .before .before .if2 .left) _ (slice-aggregate-taken-text (c .before)),
-  c .before .before .before .before .before .before .if1 .left,
-)
+taken-text-requires c κs =
+    let at-if2 = c .before .before .before in
+    let at-read = at-if2 .before .before in
+    let at-if1 = at-read .before in
+    let start = at-if1 .before .before .before in (
+      tallied-part (start .args .file .now) (at-read .read .result) (at-read .read .ensures) (at-if2 .if2 .left) _ (slice-aggregate-taken-text (c .before)),
+      at-if1 .if1 .left,
+    )
 
 same-length-2 : tie.Need-same-length-2
 same-length-2 c = search needs
 
 returns-3 : tie.Need-returns-3
 returns-3 c =
-    let e = c .before .before .before .taken-text .ensures in
-    (text-long (c .before .before .before .before .before .before .before .before .before .before .before .before .before .args .file .now) (c .before .before .before .before .before .before .before .before .before .before .before .before .before .args .text .now) _ _ (c .before .before .before .before .before .before .before .before .before .before .if1 .left) (e .0), e .1)
+    let at-taken-text = c .before .before .before in
+    let at-if1 = at-taken-text .before .before .before .before .before .before .before in
+    let start = at-if1 .before .before .before in
+    let e = at-taken-text .taken-text .ensures in
+    (text-long (start .args .file .now) (start .args .text .now) _ _ (at-if1 .if1 .left) (e .0), e .1)
 
 pub faces-text-spec : {M : Type 1} → statement M
 faces-text-spec =

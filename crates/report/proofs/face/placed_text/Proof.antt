@@ -32,19 +32,24 @@ slice-aggregate-told-text-2 c = search needs
 
 told-text-requires : tie.Need-told-text-requires
 told-text-requires c κs =
-    told-asked (c .before .before .before .before .before .before .before .before .before .before .before .before .before .before .before .before .before .before .before .before .before .before .before .before .before .before .before .before .args .file .now) (c .before .before .before .before .before .before .before .before .before .before .before .before .before .before .before .before .before .before .before .before .before .before .before .before .before .before .before .before .args .levels .now) (c .before .before .before .before .before .before .before .before .before .before .before .before .before .before .before .before .before .before .before .before .before .before .before .before .before .before .before .before .args .gauges) (c .before .before .before .before .before .before .before .before .before .before .before .before .before .before .before .before .before .before .before .before .before .before .before .before .before .before .before .before .args .arena .now) (c .before .before .before .before .before .before .before .before .before .before .before .before .before .before .before .before .before .before .before .before .before .before .before .before .before .before .before .before .args .scratch .now) (c .before .before .before .before .before .before .before .before .before .before .before .before .before .before .before .before .before .before .before .before .before .before .items-room .result) _ _ (c .before .before .before .before .before .before .before .before .before .before .before .before .before .before .before .before .before .before .before .before .before .layout-room .result) _ _ (c .before .before .before .before .before .before .before .before .before .before .before .before .before .before .before .before .before .list .result) (c .before .before .before .before .before .before .before .before .fit .result) (record {
-      ready = c .before .before .before .before .before .before .before .before .before .before .before .before .before .before .before .before .before .before .before .before .before .before .before .before .before .before .before .before .pre .0;
-      arena-long = c .before .before .before .before .before .before .before .before .before .before .before .before .before .before .before .before .before .before .before .before .before .before .before .before .before .before .before .before .pre .1 .0;
-      scratch-long = c .before .before .before .before .before .before .before .before .before .before .before .before .before .before .before .before .before .before .before .before .before .before .before .before .before .before .before .before .pre .1 .1;
-      items-long = omega (arith, c .before .before .before .before .before .before .before .before .before .before .before .before .before .before .before .before .before .before .before .before .before .before .items-room .ensures);
-      list-is = c .before .before .before .before .before .before .before .before .before .before .before .before .before .before .before .before .before .list .ensures .0;
-      items-is = c .before .before .before .before .before .before .before .before .before .before .before .before .before .before .before .before .before .list .ensures .1 .0;
-      arena-kept = c .before .before .before .before .before .before .before .before .before .before .before .before .before .before .before .before .before .list .kept .1 .1 .0;
-      scratch-kept = c .before .before .before .before .before .before .before .before .before .before .before .before .before .before .before .before .before .list .kept .1 .1 .1 .0;
-      layout-long = omega (arith, c .before .before .before .before .before .before .before .before .before .before .before .before .before .before .before .before .before .before .before .before .before .layout-room .ensures);
-      fit-is = c .before .before .before .before .before .before .before .before .fit .ensures .0;
-      layout-is = c .before .before .before .before .before .before .before .before .fit .ensures .1 .0;
-    }) (c .before .before .before .before .before .before .before .before .before .before .before .before .before .before .before .before .before .before .before .before .before .before .before .before .before .before .before .before .args .text .now) (slice-aggregate-told-text (c .before .before)) (slice-aggregate-told-text-2 (c .before)) (c .before .before .before .before .before .before .before .before .before .before .before .before .before .before .before .before .before .before .before .before .before .before .before .before .before .before .before .before .pre .1 .2)
+    let at-fit = c .before .before .before .before .before .before .before .before in
+    let at-list = at-fit .before .before .before .before .before .before .before .before .before in
+    let at-layout-room = at-list .before .before .before .before in
+    let at-items-room = at-layout-room .before in
+    let entry = at-items-room .before .before .before .before .before .before in
+    told-asked (entry .args .file .now) (entry .args .levels .now) (entry .args .gauges) (entry .args .arena .now) (entry .args .scratch .now) (at-items-room .items-room .result) _ _ (at-layout-room .layout-room .result) _ _ (at-list .list .result) (at-fit .fit .result) (record {
+      ready = entry .pre .0;
+      arena-long = entry .pre .1 .0;
+      scratch-long = entry .pre .1 .1;
+      items-long = omega (arith, at-items-room .items-room .ensures);
+      list-is = at-list .list .ensures .0;
+      items-is = at-list .list .ensures .1 .0;
+      arena-kept = at-list .list .kept .1 .1 .0;
+      scratch-kept = at-list .list .kept .1 .1 .1 .0;
+      layout-long = omega (arith, at-layout-room .layout-room .ensures);
+      fit-is = at-fit .fit .ensures .0;
+      layout-is = at-fit .fit .ensures .1 .0;
+    }) (entry .args .text .now) (slice-aggregate-told-text (c .before .before)) (slice-aggregate-told-text-2 (c .before)) (entry .pre .1 .2)
 
 same-length : tie.Need-same-length
 same-length c = search needs
@@ -56,22 +61,27 @@ same-length-3 : tie.Need-same-length-3
 same-length-3 c = search needs
 
 returns : tie.Need-returns
-returns c = (
-  placed-text (c .before .before .before .before .before .before .before .before .before .before .before .before .before .before .before .before .before .before .before .before .before .before .before .before .before .before .before .before .before .before .before .args .file .now) (c .before .before .before .before .before .before .before .before .before .before .before .before .before .before .before .before .before .before .before .before .before .before .before .before .before .before .before .before .before .before .before .args .levels .now) (c .before .before .before .before .before .before .before .before .before .before .before .before .before .before .before .before .before .before .before .before .before .before .before .before .before .before .before .before .before .before .before .args .gauges) (c .before .before .before .before .before .before .before .before .before .before .before .before .before .before .before .before .before .before .before .before .before .before .before .before .before .before .before .before .before .before .before .args .arena .now) (c .before .before .before .before .before .before .before .before .before .before .before .before .before .before .before .before .before .before .before .before .before .before .before .before .before .before .before .before .before .before .before .args .scratch .now) (c .before .before .before .before .before .before .before .before .before .before .before .before .before .before .before .before .before .before .before .before .before .before .before .before .before .items-room .result) _ _ (c .before .before .before .before .before .before .before .before .before .before .before .before .before .before .before .before .before .before .before .before .before .before .before .before .layout-room .result) _ _ (c .before .before .before .before .before .before .before .before .before .before .before .before .before .before .before .before .before .before .before .before .list .result) (c .before .before .before .before .before .before .before .before .before .before .before .fit .result) (record {
-    ready = c .before .before .before .before .before .before .before .before .before .before .before .before .before .before .before .before .before .before .before .before .before .before .before .before .before .before .before .before .before .before .before .pre .0;
-    arena-long = c .before .before .before .before .before .before .before .before .before .before .before .before .before .before .before .before .before .before .before .before .before .before .before .before .before .before .before .before .before .before .before .pre .1 .0;
-    scratch-long = c .before .before .before .before .before .before .before .before .before .before .before .before .before .before .before .before .before .before .before .before .before .before .before .before .before .before .before .before .before .before .before .pre .1 .1;
-    items-long = omega (arith, c .before .before .before .before .before .before .before .before .before .before .before .before .before .before .before .before .before .before .before .before .before .before .before .before .before .items-room .ensures);
-    list-is = c .before .before .before .before .before .before .before .before .before .before .before .before .before .before .before .before .before .before .before .before .list .ensures .0;
-    items-is = c .before .before .before .before .before .before .before .before .before .before .before .before .before .before .before .before .before .before .before .before .list .ensures .1 .0;
-    arena-kept = c .before .before .before .before .before .before .before .before .before .before .before .before .before .before .before .before .before .before .before .before .list .kept .1 .1 .0;
-    scratch-kept = c .before .before .before .before .before .before .before .before .before .before .before .before .before .before .before .before .before .before .before .before .list .kept .1 .1 .1 .0;
-    layout-long = omega (arith, c .before .before .before .before .before .before .before .before .before .before .before .before .before .before .before .before .before .before .before .before .before .before .before .before .layout-room .ensures);
-    fit-is = c .before .before .before .before .before .before .before .before .before .before .before .fit .ensures .0;
-    layout-is = c .before .before .before .before .before .before .before .before .before .before .before .fit .ensures .1 .0;
-  }) _ _ _ (c .before .before .told-text .ensures .0),
-  c .before .before .told-text .ensures .1,
-)
+returns c =
+    let at-fit = c .before .before .before .before .before .before .before .before .before .before .before in
+    let at-list = at-fit .before .before .before .before .before .before .before .before .before in
+    let at-layout-room = at-list .before .before .before .before in
+    let at-items-room = at-layout-room .before in
+    let entry = at-items-room .before .before .before .before .before .before in (
+      placed-text (entry .args .file .now) (entry .args .levels .now) (entry .args .gauges) (entry .args .arena .now) (entry .args .scratch .now) (at-items-room .items-room .result) _ _ (at-layout-room .layout-room .result) _ _ (at-list .list .result) (at-fit .fit .result) (record {
+        ready = entry .pre .0;
+        arena-long = entry .pre .1 .0;
+        scratch-long = entry .pre .1 .1;
+        items-long = omega (arith, at-items-room .items-room .ensures);
+        list-is = at-list .list .ensures .0;
+        items-is = at-list .list .ensures .1 .0;
+        arena-kept = at-list .list .kept .1 .1 .0;
+        scratch-kept = at-list .list .kept .1 .1 .1 .0;
+        layout-long = omega (arith, at-layout-room .layout-room .ensures);
+        fit-is = at-fit .fit .ensures .0;
+        layout-is = at-fit .fit .ensures .1 .0;
+      }) _ _ _ (c .before .before .told-text .ensures .0),
+      c .before .before .told-text .ensures .1,
+    )
 
 pub placed-text-spec : {M : Type 1} → statement M
 placed-text-spec =

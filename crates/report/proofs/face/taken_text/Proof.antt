@@ -21,10 +21,12 @@ slice-aggregate-placed-text-2 : tie.Need-slice-aggregate-placed-text-2
 slice-aggregate-placed-text-2 c = search needs
 
 placed-text-requires : tie.Need-placed-text-requires
-placed-text-requires c κs = (
-  levelled (c .before .before .before .before .before .before .before .before .before .before .before .before .before .args .file .now) (c .before .before .before .before .before .before .before .before .before .before .before .before .before .args .levels .now) _ (c .before .before .before .before .before .before .before .before .before .before .before .before .before .args .gauges) (c .before .before .before .before .before .before .before .before .before .before .before .before .before .pre .0) (c .before .before .before .before .before .before .fill .ensures .1),
-  search needs,
-)
+placed-text-requires c κs =
+    let at-fill = c .before .before .before .before .before .before in
+    let entry = at-fill .before .before .before .before .before .before .before in (
+      levelled (entry .args .file .now) (entry .args .levels .now) _ (entry .args .gauges) (entry .pre .0) (at-fill .fill .ensures .1),
+      search needs,
+    )
 
 same-length : tie.Need-same-length
 same-length c = search needs

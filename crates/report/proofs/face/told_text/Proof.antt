@@ -15,8 +15,10 @@ same-length c = search needs
 
 returns : tie.Need-returns
 returns c =
+    let at-if1 = c .before .before .before .before in
+    let start = at-if1 .before .before .before .before .before in
     let e = c .before .before .render-refused .ensures in
-    (told-no (c .before .before .before .before .before .before .before .before .before .args .face) (c .before .before .before .before .before .before .before .before .before .args .count) (c .before .before .before .before .before .before .before .before .before .args .items .now) (c .before .before .before .before .before .before .before .before .before .args .gauges) (c .before .before .before .before .before .before .before .before .before .args .layout .now) _ _ _ (c .before .before .before .before .if1 .taken) (e .0), (omega (arith, e .1 .0), e .1 .1))
+    (told-no (start .args .face) (start .args .count) (start .args .items .now) (start .args .gauges) (start .args .layout .now) _ _ _ (at-if1 .if1 .taken) (e .0), (omega (arith, e .1 .0), e .1 .1))
 
 mul-listed-words : tie.Need-mul-listed-words
 mul-listed-words c = search needs
@@ -26,26 +28,31 @@ mul-placed-words c = search needs
 
 slice-aggregate-render : tie.Need-slice-aggregate-render
 slice-aggregate-render c =
-    part-counted (2 * c .before .before .before .before .before .before .args .count) (c .before .before .before .before .before .before .args .items .now) (c .before .before .before .before .before .before .pre .0 .0)
+    let entry = c .before .before .before .before .before .before in
+    part-counted (2 * entry .args .count) (entry .args .items .now) (entry .pre .0 .0)
 
 slice-aggregate-render-2 : tie.Need-slice-aggregate-render-2
 slice-aggregate-render-2 c =
-    part-counted (5 * c .before .before .before .before .before .before .before .args .gauges) (c .before .before .before .before .before .before .before .args .layout .now) (c .before .before .before .before .before .before .before .pre .1 .0)
+    let entry = c .before .before .before .before .before .before .before in
+    part-counted (5 * entry .args .gauges) (entry .args .layout .now) (entry .pre .1 .0)
 
 render-requires : tie.Need-render-requires
-render-requires c κs = (
-  part-few (2 * c .before .before .before .before .before .before .before .before .args .count) 898 (c .before .before .before .before .before .before .before .before .args .items .now) (c .before .before .before .before .before .before .before .before .pre .0 .1),
-  part-few (5 * c .before .before .before .before .before .before .before .before .args .gauges) 320 (c .before .before .before .before .before .before .before .before .args .layout .now) (c .before .before .before .before .before .before .before .before .pre .1 .1),
-  c .before .before .before .before .before .before .before .before .pre .1 .2,
-)
+render-requires c κs =
+    let entry = c .before .before .before .before .before .before .before .before in (
+      part-few (2 * entry .args .count) 898 (entry .args .items .now) (entry .pre .0 .1),
+      part-few (5 * entry .args .gauges) 320 (entry .args .layout .now) (entry .pre .1 .1),
+      entry .pre .1 .2,
+    )
 
 same-length-2 : tie.Need-same-length-2
 same-length-2 c = search needs
 
 returns-2 : tie.Need-returns-2
 returns-2 c =
+    let at-if1 = c .before .before .before .before .before .before in
+    let start = at-if1 .before .before .before .before .before in
     let e = c .before .before .render .ensures in
-    (told-yes (c .before .before .before .before .before .before .before .before .before .before .before .args .face) (c .before .before .before .before .before .before .before .before .before .before .before .args .count) (c .before .before .before .before .before .before .before .before .before .before .before .args .items .now) (c .before .before .before .before .before .before .before .before .before .before .before .args .gauges) (c .before .before .before .before .before .before .before .before .before .before .before .args .layout .now) _ _ _ (c .before .before .before .before .before .before .if1 .left) (e .0), e .1)
+    (told-yes (start .args .face) (start .args .count) (start .args .items .now) (start .args .gauges) (start .args .layout .now) _ _ _ (at-if1 .if1 .left) (e .0), e .1)
 
 pub told-text-spec : {M : Type 1} → statement M
 told-text-spec =

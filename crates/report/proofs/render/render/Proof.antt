@@ -28,7 +28,11 @@ same-length c = search needs
 
 returns : tie.Need-returns
 returns c =
-    faces-printed _ _ _ _ _ _ _ _ _ _ _ _ _ _ (c .before .before .before .before .before .before .before .before .before .before .before .before .before .before .write-named .ensures) (c .before .before .before .before .before .before .before .before .before .before .write-items .ensures) (c .before .before .before .before .before .before .write-best .ensures) (c .before .before .write-gauges .ensures) (c .before .before .before .before .before .before .before .before .before .before .before .before .before .before .before .before .before .before .before .before .pre)
+    let at-write-best = c .before .before .before .before .before .before in
+    let at-write-items = at-write-best .before .before .before .before in
+    let at-write-named = at-write-items .before .before .before .before in
+    let entry = at-write-named .before .before .before .before .before .before in
+    faces-printed _ _ _ _ _ _ _ _ _ _ _ _ _ _ (at-write-named .write-named .ensures) (at-write-items .write-items .ensures) (at-write-best .write-best .ensures) (c .before .before .write-gauges .ensures) (entry .pre)
 
 pub render-spec : {M : Type 1} → statement M
 render-spec =

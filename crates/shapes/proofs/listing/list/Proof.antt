@@ -15,22 +15,32 @@ refused-requires c κs = search needs
 
 returns : tie.Need-returns
 returns c =
-    list-file (c .before .before .before .before .before .before .before .before .before .args .file .now) (c .before .before .before .before .before .before .before .before .before .args .levels .now) (c .before .before .before .before .before .before .before .before .before .args .arena .now) (c .before .before .before .before .before .before .before .before .before .args .scratch .now) (c .before .before .before .before .before .before .before .before .before .args .output .now) _ (c .before .before .before .read .ensures) (c .before .if1 .taken) _ (c .refused .ensures)
+    let at-read = c .before .before .before in
+    let start = at-read .before .before .before .before .before .before in
+    list-file (start .args .file .now) (start .args .levels .now) (start .args .arena .now) (start .args .scratch .now) (start .args .output .now) _ (at-read .read .ensures) (c .before .if1 .taken) _ (c .refused .ensures)
 
 lent-number-requires : tie.Need-lent-number-requires
 lent-number-requires c κs =
-    list-counts (c .before .before .before .before .before .before .before .before .args .file .now) (c .before .before .before .before .before .before .before .before .args .levels .now) (c .before .before .before .before .before .before .before .before .args .arena .now) (c .before .before .before .before .before .before .before .before .args .scratch .now) (c .before .before .before .before .before .before .before .before .args .output .now) _ (c .before .before .read .ensures) (c .if1 .left)
+    let start = c .before .before .before .before .before .before .before .before in
+    list-counts (start .args .file .now) (start .args .levels .now) (start .args .arena .now) (start .args .scratch .now) (start .args .output .now) _ (c .before .before .read .ensures) (c .if1 .left)
 
 refused-requires-2 : tie.Need-refused-requires-2
 refused-requires-2 c κs = search needs
 
 returns-2 : tie.Need-returns-2
 returns-2 c =
-    list-lent (c .before .before .before .before .before .before .before .before .before .before .before .args .file .now) (c .before .before .before .before .before .before .before .before .before .before .before .args .levels .now) (c .before .before .before .before .before .before .before .before .before .before .before .args .arena .now) (c .before .before .before .before .before .before .before .before .before .before .before .args .scratch .now) (c .before .before .before .before .before .before .before .before .before .before .before .args .output .now) _ (c .before .before .before .before .before .read .ensures) (c .before .before .before .if1 .left) _ (c .before .before .lent-number .ensures) (λ e. let t = c .before .if2 .taken in omega arith) _ (c .refused2 .ensures)
+    let at-if1 = c .before .before .before in
+    let at-read = at-if1 .before .before in
+    let start = at-read .before .before .before .before .before .before in
+    list-lent (start .args .file .now) (start .args .levels .now) (start .args .arena .now) (start .args .scratch .now) (start .args .output .now) _ (at-read .read .ensures) (at-if1 .if1 .left) _ (c .before .before .lent-number .ensures) (λ e. let t = c .before .if2 .taken in omega arith) _ (c .refused2 .ensures)
 
 write-list-requires : tie.Need-write-list-requires
 write-list-requires c κs =
-    list-writable (c .before .before .before .before .before .before .before .before .before .before .before .before .args .file .now) (c .before .before .before .before .before .before .before .before .before .before .before .before .args .levels .now) (c .before .before .before .before .before .before .before .before .before .before .before .before .args .arena .now) (c .before .before .before .before .before .before .before .before .before .before .before .before .args .scratch .now) (c .before .before .before .before .before .before .before .before .before .before .before .before .args .output .now) _ (c .before .before .before .before .before .before .read .ensures) (c .before .before .before .before .if1 .left) _ (c .before .before .before .lent-number .ensures) (let t = c .before .before .if2 .left in omega arith)
+    let at-lent-number = c .before .before .before in
+    let at-if1 = at-lent-number .before in
+    let at-read = at-if1 .before .before in
+    let start = at-read .before .before .before .before .before .before in
+    list-writable (start .args .file .now) (start .args .levels .now) (start .args .arena .now) (start .args .scratch .now) (start .args .output .now) _ (at-read .read .ensures) (at-if1 .if1 .left) _ (at-lent-number .lent-number .ensures) (let t = c .before .before .if2 .left in omega arith)
 
 same-length : tie.Need-same-length
 same-length c = search needs
@@ -40,7 +50,13 @@ same-length-2 c = search needs
 
 returns-3 : tie.Need-returns-3
 returns-3 c =
-    list-done (c .before .before .before .before .before .before .before .before .before .before .before .before .before .before .before .before .before .args .file .now) (c .before .before .before .before .before .before .before .before .before .before .before .before .before .before .before .before .before .args .levels .now) (c .before .before .before .before .before .before .before .before .before .before .before .before .before .before .before .before .before .args .arena .now) (c .before .before .before .before .before .before .before .before .before .before .before .before .before .before .before .before .before .args .scratch .now) (c .before .before .before .before .before .before .before .before .before .before .before .before .before .before .before .before .before .args .output .now) _ (c .before .before .before .before .before .before .before .before .before .before .before .read .ensures) (c .before .before .before .before .before .before .before .before .before .if1 .left) _ (c .before .before .before .before .before .before .before .before .lent-number .ensures) (let t = c .before .before .before .before .before .before .before .if2 .left in omega arith) _ _ _ _ _ (c .before .before .before .before .write-list .ensures) refl
+    let at-write-list = c .before .before .before .before in
+    let at-if2 = at-write-list .before .before .before in
+    let at-lent-number = at-if2 .before in
+    let at-if1 = at-lent-number .before in
+    let at-read = at-if1 .before .before in
+    let start = at-read .before .before .before .before .before .before in
+    list-done (start .args .file .now) (start .args .levels .now) (start .args .arena .now) (start .args .scratch .now) (start .args .output .now) _ (at-read .read .ensures) (at-if1 .if1 .left) _ (at-lent-number .lent-number .ensures) (let t = at-if2 .if2 .left in omega arith) _ _ _ _ _ (at-write-list .write-list .ensures) refl
 
 pub list-spec : {M : Type 1} → statement M
 list-spec =

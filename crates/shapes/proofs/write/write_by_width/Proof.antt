@@ -60,7 +60,10 @@ slice-aggregate-pass-2 c = search needs
 
 pass-requires-2 : tie.Need-pass-requires-2 Inv-loop μ-loop
 pass-requires-2 c κs =
-    widths-summable _ _ _ _ _ _ _ (c .before .before .before .before .before .before .before .before .before .before .before .loop .inv) (c .before .before .before .before .before .before .before .before .before .before .loop-test .taken) _ (c .before .before .before .before .before .before .before .before .before .wide .ensures)
+    let at-wide = c .before .before .before .before .before .before .before .before .before in
+    let at-loop-test = at-wide .before in
+    let at-loop = at-loop-test .before in
+    widths-summable _ _ _ _ _ _ _ (at-loop .loop .inv) (at-loop-test .loop-test .taken) _ (at-wide .wide .ensures)
 
 loop-less : tie.Need-loop-less Inv-loop μ-loop
 loop-less c = search (needs, walk-less)

@@ -16,7 +16,9 @@ same-length c = search needs
 
 returns : tie.Need-returns
 returns c =
-    gauge-added _ _ _ _ _ _ _ (c .before .before .before .before .before .before .before .before .before .before .pre .0) (search needs) (c .before .before .before .before .before .before .store-sizes .ensures .0) (c .before .before .before .before .before .before .store-sizes .ensures .1) (c .before .before .store-entry .ensures)
+    let at-store-sizes = c .before .before .before .before .before .before in
+    let entry = at-store-sizes .before .before .before .before in
+    gauge-added _ _ _ _ _ _ _ (entry .pre .0) (search needs) (at-store-sizes .store-sizes .ensures .0) (at-store-sizes .store-sizes .ensures .1) (c .before .before .store-entry .ensures)
 
 pub store-gauge-spec : {M : Type 1} → statement M
 store-gauge-spec =

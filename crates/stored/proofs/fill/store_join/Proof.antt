@@ -37,26 +37,45 @@ stretch-requires-2 c κs =
 
 merge-lists-requires : tie.Need-merge-lists-requires
 merge-lists-requires c κs =
-    join-merges _ _ _ _ _ (c .before .before .before .before .before .before .before .part-word .ensures) _ _ (c .before .before .before .stretch .ensures) (c .before .stretch2 .ensures) (c .before .before .before .before .before .before .before .before .before .before .pre)
+    let at-stretch = c .before .before .before in
+    let at-part-word = at-stretch .before .before .before .before in
+    let entry = at-part-word .before .before .before in
+    join-merges _ _ _ _ _ (at-part-word .part-word .ensures) _ _ (at-stretch .stretch .ensures) (c .before .stretch2 .ensures) (entry .pre)
 
 add-store-entry : tie.Need-add-store-entry
 add-store-entry c =
-    record { fits = let few = join-gauges _ _ _ _ _ (c .before .before .before .before .before .before .before .before .before .before .before .part-word .ensures) (c .before .before .before .before .before .before .before .before .before .before .before .before .before .before .pre) _ (c .before .before .before .before .before .before .before .before .before .part-word2 .ensures) in omega arith }
+    let at-part-word2 = c .before .before .before .before .before .before .before .before .before in
+    let at-part-word = at-part-word2 .before .before in
+    let entry = at-part-word .before .before .before in
+    record { fits = let few = join-gauges _ _ _ _ _ (at-part-word .part-word .ensures) (entry .pre) _ (at-part-word2 .part-word2 .ensures) in omega arith }
 
 cast-store-entry : tie.Need-cast-store-entry
 cast-store-entry c =
-    record { fits = let few = join-gauges _ _ _ _ _ (c .before .before .before .before .before .before .before .before .before .before .before .part-word .ensures) (c .before .before .before .before .before .before .before .before .before .before .before .before .before .before .pre) _ (c .before .before .before .before .before .before .before .before .before .part-word2 .ensures) in omega arith }
+    let at-part-word2 = c .before .before .before .before .before .before .before .before .before in
+    let at-part-word = at-part-word2 .before .before in
+    let entry = at-part-word .before .before .before in
+    record { fits = let few = join-gauges _ _ _ _ _ (at-part-word .part-word .ensures) (entry .pre) _ (at-part-word2 .part-word2 .ensures) in omega arith }
 
 store-entry-requires : tie.Need-store-entry-requires
 store-entry-requires c κs =
-    join-stores _ _ _ _ _ (c .before .before .before .before .before .before .before .before .before .before .before .part-word .ensures) _ _ (c .before .before .before .before .before .before .before .stretch .ensures) (c .before .before .before .before .before .stretch2 .ensures) _ _ (c .before .before .before .merge-lists .ensures) (c .before .before .before .before .before .before .before .before .before .before .before .before .before .before .pre)
+    let at-merge-lists = c .before .before .before in
+    let at-stretch2 = at-merge-lists .before .before in
+    let at-stretch = at-stretch2 .before .before in
+    let at-part-word = at-stretch .before .before .before .before in
+    let entry = at-part-word .before .before .before in
+    join-stores _ _ _ _ _ (at-part-word .part-word .ensures) _ _ (at-stretch .stretch .ensures) (at-stretch2 .stretch2 .ensures) _ _ (at-merge-lists .merge-lists .ensures) (entry .pre)
 
 same-length : tie.Need-same-length
 same-length c = search needs
 
 returns : tie.Need-returns
 returns c =
-    join-done _ _ _ _ _ (c .before .before .before .before .before .before .before .before .before .before .before .before .before .before .part-word .ensures) _ _ (c .before .before .before .before .before .before .before .before .before .before .stretch .ensures) (c .before .before .before .before .before .before .before .before .stretch2 .ensures) _ _ (c .before .before .before .before .before .before .merge-lists .ensures) _ (c .before .before .before .before .before .before .before .before .before .before .before .before .part-word2 .ensures) _ (c .before .before .store-entry .ensures)
+    let at-merge-lists = c .before .before .before .before .before .before in
+    let at-stretch2 = at-merge-lists .before .before in
+    let at-stretch = at-stretch2 .before .before in
+    let at-part-word2 = at-stretch .before .before in
+    let at-part-word = at-part-word2 .before .before in
+    join-done _ _ _ _ _ (at-part-word .part-word .ensures) _ _ (at-stretch .stretch .ensures) (at-stretch2 .stretch2 .ensures) _ _ (at-merge-lists .merge-lists .ensures) _ (at-part-word2 .part-word2 .ensures) _ (c .before .before .store-entry .ensures)
 
 pub store-join-spec : {M : Type 1} → statement M
 store-join-spec =

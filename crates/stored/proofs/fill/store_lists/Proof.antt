@@ -65,15 +65,26 @@ part-store-gauge-end c =
 
 store-gauge-requires : tie.Need-store-gauge-requires Inv-loop μ-loop
 store-gauge-requires c κs =
-    gauge-room _ _ _ _ _ _ (c .before .before .before .before .before .before .before .loop .inv) (c .before .before .before .before .before .before .loop-test .taken) (c .before .before .before .before .if1 .taken) _ (c .before .before .wide .ensures .0)
+    let at-if1 = c .before .before .before .before in
+    let at-loop-test = at-if1 .before .before in
+    let at-loop = at-loop-test .before in
+    gauge-room _ _ _ _ _ _ (at-loop .loop .inv) (at-loop-test .loop-test .taken) (at-if1 .if1 .taken) _ (c .before .before .wide .ensures .0)
 
 add-to : tie.Need-add-to Inv-loop μ-loop
 add-to c =
-    record { fits = let few = gauge-fits _ _ _ _ _ _ (c .before .before .before .before .before .before .before .before .before .before .loop .inv) (c .before .before .before .before .before .before .before .before .before .loop-test .taken) (c .before .before .before .before .before .before .before .if1 .taken) _ (c .before .before .before .before .before .wide .ensures .0) in omega arith }
+    let at-wide = c .before .before .before .before .before in
+    let at-if1 = at-wide .before .before in
+    let at-loop-test = at-if1 .before .before in
+    let at-loop = at-loop-test .before in
+    record { fits = let few = gauge-fits _ _ _ _ _ _ (at-loop .loop .inv) (at-loop-test .loop-test .taken) (at-if1 .if1 .taken) _ (at-wide .wide .ensures .0) in omega arith }
 
 add-part : tie.Need-add-part Inv-loop μ-loop
 add-part c =
-    record { fits = let few = gauge-room _ _ _ _ _ _ (c .before .before .before .before .before .before .before .before .before .before .loop .inv) (c .before .before .before .before .before .before .before .before .before .loop-test .taken) (c .before .before .before .before .before .before .before .if1 .taken) _ (c .before .before .before .before .before .wide .ensures .0) .0 .part in omega arith }
+    let at-wide = c .before .before .before .before .before in
+    let at-if1 = at-wide .before .before in
+    let at-loop-test = at-if1 .before .before in
+    let at-loop = at-loop-test .before in
+    record { fits = let few = gauge-room _ _ _ _ _ _ (at-loop .loop .inv) (at-loop-test .loop-test .taken) (at-if1 .if1 .taken) _ (at-wide .wide .ensures .0) .0 .part in omega arith }
 
 loop-less : tie.Need-loop-less Inv-loop μ-loop
 loop-less c =
@@ -81,7 +92,11 @@ loop-less c =
 
 loop-again : tie.Need-loop-again Inv-loop μ-loop
 loop-again c =
-    filling-gauge _ _ _ _ _ _ (c .before .before .before .before .before .before .before .before .before .before .loop .inv) (c .before .before .before .before .before .before .before .before .before .loop-test .taken) (c .before .before .before .before .before .before .before .if1 .taken) _ (c .before .before .before .before .before .wide .ensures .0) _ (c .before .before .store-gauge .ensures)
+    let at-wide = c .before .before .before .before .before in
+    let at-if1 = at-wide .before .before in
+    let at-loop-test = at-if1 .before .before in
+    let at-loop = at-loop-test .before in
+    filling-gauge _ _ _ _ _ _ (at-loop .loop .inv) (at-loop-test .loop-test .taken) (at-if1 .if1 .taken) _ (at-wide .wide .ensures .0) _ (c .before .before .store-gauge .ensures)
 
 store-join-requires : tie.Need-store-join-requires Inv-loop μ-loop
 store-join-requires c κs =
@@ -89,7 +104,10 @@ store-join-requires c κs =
 
 add-to-2 : tie.Need-add-to-2 Inv-loop μ-loop
 add-to-2 c =
-    record { fits = let few = join-fits _ _ _ _ _ _ (c .before .before .before .before .before .before .before .loop .inv) (c .before .before .before .before .before .before .loop-test .taken) (c .before .before .before .before .if1 .left) _ refl _ _ (c .before .before .store-join .ensures) .1 in omega arith }
+    let at-if1 = c .before .before .before .before in
+    let at-loop-test = at-if1 .before .before in
+    let at-loop = at-loop-test .before in
+    record { fits = let few = join-fits _ _ _ _ _ _ (at-loop .loop .inv) (at-loop-test .loop-test .taken) (at-if1 .if1 .left) _ refl _ _ (c .before .before .store-join .ensures) .1 in omega arith }
 
 add-at : tie.Need-add-at Inv-loop μ-loop
 add-at c =
@@ -97,7 +115,10 @@ add-at c =
 
 add-part-2 : tie.Need-add-part-2 Inv-loop μ-loop
 add-part-2 c =
-    record { fits = let few = join-ready _ _ _ _ _ _ (c .before .before .before .before .before .before .before .loop .inv) (c .before .before .before .before .before .before .loop-test .taken) (c .before .before .before .before .if1 .left) _ refl .3 .room .part in omega arith }
+    let at-if1 = c .before .before .before .before in
+    let at-loop-test = at-if1 .before .before in
+    let at-loop = at-loop-test .before in
+    record { fits = let few = join-ready _ _ _ _ _ _ (at-loop .loop .inv) (at-loop-test .loop-test .taken) (at-if1 .if1 .left) _ refl .3 .room .part in omega arith }
 
 loop-less-2 : tie.Need-loop-less-2 Inv-loop μ-loop
 loop-less-2 c =
@@ -105,7 +126,10 @@ loop-less-2 c =
 
 loop-again-2 : tie.Need-loop-again-2 Inv-loop μ-loop
 loop-again-2 c =
-    filling-join _ _ _ _ _ _ (c .before .before .before .before .before .before .before .loop .inv) (c .before .before .before .before .before .before .loop-test .taken) (c .before .before .before .before .if1 .left) _ refl _ _ (c .before .before .store-join .ensures)
+    let at-if1 = c .before .before .before .before in
+    let at-loop-test = at-if1 .before .before in
+    let at-loop = at-loop-test .before in
+    filling-join _ _ _ _ _ _ (at-loop .loop .inv) (at-loop-test .loop-test .taken) (at-if1 .if1 .left) _ refl _ _ (c .before .before .store-join .ensures)
 
 sub-result : tie.Need-sub-result Inv-loop μ-loop
 sub-result c =

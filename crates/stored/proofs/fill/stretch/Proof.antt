@@ -22,7 +22,10 @@ runs-across-requires c κs = search needs
 
 returns : tie.Need-returns
 returns c =
-    read-stretch (c .before .before .before .before .before .before .args .scratch .now) (c .before .before .before .before .before .before .args .part) (c .before .before .before .before .before .before .args .join) _ _ _ _ _ (c .before .before .before .before .part-word .ensures) (c .before .before .before .part-word2 .ensures) (c .before .before .part-word3 .ensures) (c .before .byte-of .ensures) (c .runs-across .ensures)
+    let at-part-word2 = c .before .before .before in
+    let at-part-word = at-part-word2 .before in
+    let start = at-part-word .before .before in
+    read-stretch (start .args .scratch .now) (start .args .part) (start .args .join) _ _ _ _ _ (at-part-word .part-word .ensures) (at-part-word2 .part-word2 .ensures) (c .before .before .part-word3 .ensures) (c .before .byte-of .ensures) (c .runs-across .ensures)
 
 pub stretch-spec : {M : Type 1} → statement M
 stretch-spec =

@@ -46,34 +46,65 @@ read-at-requires-2 : tie.Need-read-at-requires-2 Inv-loop μ-loop
 read-at-requires-2 c κs = newer-inside _ _ _ _ _ _ _ _ _ _ (c .before .before .before .before .before .loop .inv) (c .before .before .before .if1 .left) .2
 
 pair-of-requires : tie.Need-pair-of-requires Inv-loop μ-loop
-pair-of-requires c κs = walking-low _ _ _ _ _ _ _ _ _ _ (c .before .before .before .before .before .before .loop .inv) (c .before .before .before .before .before .loop-test .taken) (c .before .before .before .before .if1 .left) _ _ (c .before .before .read-at .ensures) (c .read-at2 .ensures)
+pair-of-requires c κs =
+    let at-if1 = c .before .before .before .before in
+    let at-loop-test = at-if1 .before in
+    let at-loop = at-loop-test .before in
+    walking-low _ _ _ _ _ _ _ _ _ _ (at-loop .loop .inv) (at-loop-test .loop-test .taken) (at-if1 .if1 .left) _ _ (c .before .before .read-at .ensures) (c .read-at2 .ensures)
 
 mul-scratch : tie.Need-mul-scratch Inv-loop μ-loop
 mul-scratch c = let room = walking-room _ _ _ _ _ _ _ _ _ _ (c .before .before .before .before .before .before .before .loop .inv) (c .before .before .before .before .before .before .loop-test .taken) (c .before .before .before .before .before .if1 .left) in search needs
 
 slice-write-scratch : tie.Need-slice-write-scratch Inv-loop μ-loop
-slice-write-scratch c = walking-room _ _ _ _ _ _ _ _ _ _ (c .before .before .before .before .before .before .before .loop .inv) (c .before .before .before .before .before .before .loop-test .taken) (c .before .before .before .before .before .if1 .left)
+slice-write-scratch c =
+    let at-if1 = c .before .before .before .before .before in
+    let at-loop-test = at-if1 .before in
+    let at-loop = at-loop-test .before in
+    walking-room _ _ _ _ _ _ _ _ _ _ (at-loop .loop .inv) (at-loop-test .loop-test .taken) (at-if1 .if1 .left)
 
 gone-requires : tie.Need-gone-requires Inv-loop μ-loop
 gone-requires c κs = search needs
 
 after-requires : tie.Need-after-requires Inv-loop μ-loop
-after-requires c κs = let inside = older-inside _ _ _ _ _ _ _ _ _ _ (c .before .before .before .before .before .before .before .before .loop .inv) (c .before .before .before .before .before .before .before .loop-test .taken) in let few = few-go _ _ _ (c .gone .ensures) in let fits = c .before .before .before .before .before .before .before .before .before .before .before .before .before .before .fits .to .fits in (omega arith, omega arith)
+after-requires c κs =
+    let at-loop-test = c .before .before .before .before .before .before .before in
+    let at-loop = at-loop-test .before in
+    let at-fits = at-loop .before .before .before .before .before .before in
+    let inside = older-inside _ _ _ _ _ _ _ _ _ _ (at-loop .loop .inv) (at-loop-test .loop-test .taken) in let few = few-go _ _ _ (c .gone .ensures) in let fits = at-fits .fits .to .fits in (omega arith, omega arith)
 
 gone-requires-2 : tie.Need-gone-requires-2 Inv-loop μ-loop
 gone-requires-2 c κs = search needs
 
 after-requires-2 : tie.Need-after-requires-2 Inv-loop μ-loop
-after-requires-2 c κs = let inside = newer-inside _ _ _ _ _ _ _ _ _ _ (c .before .before .before .before .before .before .before .before .before .before .loop .inv) (c .before .before .before .before .before .before .before .before .if1 .left) in let few = few-go _ _ _ (c .gone2 .ensures) in let fits = c .before .before .before .before .before .before .before .before .before .before .before .before .before .before .before .before .fits .to .fits in (omega arith, omega arith)
+after-requires-2 c κs =
+    let at-if1 = c .before .before .before .before .before .before .before .before in
+    let at-loop = at-if1 .before .before in
+    let at-fits = at-loop .before .before .before .before .before .before in
+    let inside = newer-inside _ _ _ _ _ _ _ _ _ _ (at-loop .loop .inv) (at-if1 .if1 .left) in let few = few-go _ _ _ (c .gone2 .ensures) in let fits = at-fits .fits .to .fits in (omega arith, omega arith)
 
 add-at : tie.Need-add-at Inv-loop μ-loop
 add-at c = let room = walking-room _ _ _ _ _ _ _ _ _ _ (c .before .before .before .before .before .before .before .before .before .before .before .loop .inv) (c .before .before .before .before .before .before .before .before .before .before .loop-test .taken) (c .before .before .before .before .before .before .before .before .before .if1 .left) in search needs
 
 loop-less : tie.Need-loop-less Inv-loop μ-loop
-loop-less c = walking-less _ _ _ _ _ _ _ _ _ _ (c .before .before .before .before .before .before .before .before .before .before .before .loop .inv) (c .before .before .before .before .before .before .before .before .before .before .loop-test .taken) (c .before .before .before .before .before .before .before .before .before .if1 .left) _ _ (c .before .before .before .before .before .before .before .read-at .ensures) (c .before .before .before .before .before .read-at2 .ensures) _ _ _ _ (c .before .before .before .gone .ensures) (c .before .gone2 .ensures) (c .before .before .after .ensures) (c .after2 .ensures)
+loop-less c =
+    let at-gone = c .before .before .before in
+    let at-read-at2 = at-gone .before .before in
+    let at-read-at = at-read-at2 .before .before in
+    let at-if1 = at-read-at .before .before in
+    let at-loop-test = at-if1 .before in
+    let at-loop = at-loop-test .before in
+    walking-less _ _ _ _ _ _ _ _ _ _ (at-loop .loop .inv) (at-loop-test .loop-test .taken) (at-if1 .if1 .left) _ _ (at-read-at .read-at .ensures) (at-read-at2 .read-at2 .ensures) _ _ _ _ (at-gone .gone .ensures) (c .before .gone2 .ensures) (c .before .before .after .ensures) (c .after2 .ensures)
 
 loop-again : tie.Need-loop-again Inv-loop μ-loop
-loop-again c = walking-turn _ _ _ _ _ _ _ _ _ _ (c .before .before .before .before .before .before .before .before .before .before .before .loop .inv) (c .before .before .before .before .before .before .before .before .before .before .loop-test .taken) (c .before .before .before .before .before .before .before .before .before .if1 .left) _ _ (c .before .before .before .before .before .before .before .read-at .ensures) (c .before .before .before .before .before .read-at2 .ensures) _ _ _ _ (c .before .before .before .gone .ensures) (c .before .gone2 .ensures) (c .before .before .after .ensures) (c .after2 .ensures) _ (c .before .before .before .before .pair-of .ensures)
+loop-again c =
+    let at-gone = c .before .before .before in
+    let at-pair-of = at-gone .before in
+    let at-read-at2 = at-pair-of .before in
+    let at-read-at = at-read-at2 .before .before in
+    let at-if1 = at-read-at .before .before in
+    let at-loop-test = at-if1 .before in
+    let at-loop = at-loop-test .before in
+    walking-turn _ _ _ _ _ _ _ _ _ _ (at-loop .loop .inv) (at-loop-test .loop-test .taken) (at-if1 .if1 .left) _ _ (at-read-at .read-at .ensures) (at-read-at2 .read-at2 .ensures) _ _ _ _ (at-gone .gone .ensures) (c .before .gone2 .ensures) (c .before .before .after .ensures) (c .after2 .ensures) _ (at-pair-of .pair-of .ensures)
 
 sub-result-2 : tie.Need-sub-result-2 Inv-loop μ-loop
 sub-result-2 c = walking-past _ _ _ _ _ _ _ _ _ _ (c .before .loop .inv)
