@@ -1,0 +1,134 @@
+#!/usr/bin/env python3
+"""Lists the definitions that a reader has to believe: those that the contracts of the public calls reach, and those
+that the statements of the demands' theorems reach beyond them.
+
+    python3 tools/definitions.py            prints both tables, file by file with the lines of each
+    python3 tools/definitions.py --check    says whether docs/TRUST.md has them as they are printed
+
+It reads the sources as text. A contract reaches the names in its clauses; a name reaches those in its own definition.
+Lines are all lines of a file, its comments and imports too.
+"""
+
+import pathlib
+import re
+import sys
+
+ROOT = pathlib.Path(__file__).resolve().parent.parent
+CRATES = ROOT / "crates"
+PAGE = ROOT / "docs" / "TRUST.md"
+
+CALLS = [
+    ("facefile/src/reader.rt", "read"),
+    ("facefile/src/size_bytes.rt", "gauge_bytes"),
+    ("levels/src/lib.rt", "fill"),
+    ("maxplus/src/read_list.rt", "read"),
+    ("shapes/src/listing.rt", "list"),
+    ("fit/src/fitting.rt", "fit"),
+    ("report/src/face.rt", "faces_text"),
+]
+THEOREMS = [
+    ("slicing/proofs/Demand2.antt", "demand-2"),
+    ("shapes/proofs/Demand2.antt", "list-demand-2"),
+    ("shapes/proofs/Demand2.antt", "levels-alike"),
+    ("slicing/proofs/Demand3.antt", "demand-3"),
+    ("slicing/proofs/Demand3.antt", "nothing-exactly"),
+    ("slicing/proofs/Demand3.antt", "nothing-where-none"),
+    ("slicing/proofs/MergeLaws.antt", "maxplus"),
+]
+
+IMPORT = re.compile(r"^(?:ghost |pub )*use Rattle·(\w+)(?:·\w+)?\.(specs|proofs)\.(\w+)\.\{([^}]*)\}", re.M)
+HEAD = re.compile(r"^(?:(?:pub|abbrev|unfoldable|data|record) )*([^\s(){}:;]+)\s")
+WORD = re.compile(r"[^\s(){}.;,⌜⌝]+")
+
+
+class File:
+    """A file of Rattle or antt: its text, where its imported names come from, and the lines of each definition."""
+
+    def __init__(self, path):
+        self.text = path.read_text()
+        self.imports = {}
+        for crate, folder, module, names in IMPORT.findall(self.text):
+            for name in names.split(","):
+                own, _, called = name.strip().partition(" as ")
+                self.imports[called or own] = CRATES / crate / folder / f"{module}.antt", own
+        self.definitions = {}
+        name = None
+        for line in self.text.split("\n"):
+            if line.startswith(("--", "use ", "pub use ", "pub mod ")):
+                continue
+            head = HEAD.match(line)
+            if head and not line[0].isspace():
+                name = head.group(1)
+            if name:
+                self.definitions.setdefault(name, []).append(line)
+        self.owner = {}
+        for name, lines in self.definitions.items():
+            if re.match(r"(?:pub )?data ", lines[0]):
+                self.owner.update((re.split(r"\s+", line.strip())[0], name) for line in lines[1:] if line.strip())
+
+
+FILES = {}
+
+
+def file_at(path):
+    if path not in FILES:
+        FILES[path] = File(path)
+    return FILES[path]
+
+
+def clauses(path, call):
+    """The clauses of a public function."""
+    after = file_at(path).text.split(f"pub fn {call}(", 1)[1]
+    return after[: after.index("\n{")]
+
+
+def statement(path, theorem):
+    """A theorem's type."""
+    return file_at(path).definitions[theorem][0].partition(" : ")[2]
+
+
+def reached(starts):
+    """The pairs of a file and a definition that are reached from pairs of a file and a text in it."""
+    found = set()
+    waiting = list(starts)
+    while waiting:
+        path, text = waiting.pop()
+        file = file_at(path)
+        for word in WORD.findall(text):
+            word = file.owner.get(word, word)
+            if word in file.imports:
+                target, name = file.imports[word]
+            elif word in file.definitions and path.suffix == ".antt":
+                target, name = path, word
+            else:
+                continue
+            name = file_at(target).owner.get(name, name)
+            if (target, name) not in found and name in file_at(target).definitions:
+                found.add((target, name))
+                waiting.append((target, "\n".join(file_at(target).definitions[name])))
+    return found
+
+
+def table(paths):
+    rows = [(str(path.relative_to(CRATES)), len(file_at(path).text.splitlines())) for path in sorted(paths)]
+    lines = ["| file | lines |", "|---|---|"]
+    lines += [f"| `{name}` | {count} |" for name, count in rows]
+    lines.append(f"| {len(rows)} files | {sum(count for _, count in rows):,} |")
+    return "\n".join(lines) + "\n"
+
+
+def main():
+    contracts = {path for path, _ in reached((CRATES / path, clauses(CRATES / path, call)) for path, call in CALLS)}
+    theorems = {path for path, _ in reached((CRATES / path, statement(CRATES / path, law)) for path, law in THEOREMS)}
+    tables = table(contracts), table(theorems - contracts)
+    if "--check" in sys.argv[1:]:
+        if any(part not in PAGE.read_text() for part in tables):
+            sys.exit("docs/TRUST.md has other tables")
+        print("docs/TRUST.md has the tables as they are")
+        return
+    print("What the contracts of the calls reach:\n\n" + tables[0])
+    print("What the statements of the demands' theorems reach beyond that:\n\n" + tables[1], end="")
+
+
+if __name__ == "__main__":
+    main()
