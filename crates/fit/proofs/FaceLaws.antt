@@ -30,17 +30,14 @@ use Rattle.fit.specs.Fitting.{noFace, faceFound, faceWords}
 use Rattle.fit.specs.Facing.{Placeable, PlacedIn}
 use Rattle.stored.proofs.Reading.{ItemWord}
 use Rattle.stored.proofs.StoredLists.{Low, facing-low, m-is, p-is}
-use Rattle.fit.proofs.Looking.{product-low, halves-low}
+use Rattle.fit.proofs.Looking.{product-low}
 use Rattle.stored.proofs.OwnLists.{own-length}
 use Rattle.fit.proofs.PartLists.{table-inside}
 use Rattle.fit.proofs.TakeLaws.{Listed, stored-list, stored-count, stored-facing}
 use Rattle.fit.proofs.LayLaws.{root-layable}
 
-pub found-area : (z m p : ℕ) → m ≡ z / 65_536 → p ≡ z % 65_536 → z < 2 ^ 32 → m * p < 2 ^ 32
-found-area z m p e f small =
-    let low = halves-low z m p small e f in
-    let area = product-low m p (low .0) (low .1) in
-    omega arith
+pub area-fits : (h w : ℕ) → h < 65_536 → w < 65_536 → h * w < 2 ^ 32
+area-fits h w low-h low-w = let area = product-low h w low-h low-w in omega arith
 
 pub found-is : (z count m p : ℕ) → m ≡ z / 65_536 → p ≡ z % 65_536 → _≡_ {A = Fitted} (record { number = 0; height = m; width = p; area = m * p; count = count }) (record { number = 0; height = z / 65_536; width = z % 65_536; area = z / 65_536 * (z % 65_536); count = count })
 found-is z count m p e f =

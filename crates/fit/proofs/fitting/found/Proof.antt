@@ -1,7 +1,9 @@
 -- `fit::fitting::found` meets its contract.
 -- The height and the width are the halves of the word, both below 65,536, so their product is a word.
+use native.Mathlib.Omega.{arith}
 use borrow.Author.Needs.{needs}
-use Rattle.fit.proofs.FaceLaws.{found-area, found-is}
+use Rattle.fit.proofs.Looking.{halves-low}
+use Rattle.fit.proofs.FaceLaws.{area-fits, found-is}
 use Rattle.fit.proofs.fitting.found.Statement.{statement}
 use Rattle.fit.proofs.fitting.found.Tie as tie
 
@@ -12,7 +14,11 @@ p-of-requires : tie.Need-p-of-requires
 p-of-requires c κs = search needs
 
 mul-t5 : tie.Need-mul-t5
-mul-t5 c = record { fits = found-area _ _ _ (c .before .m-of .ensures) (c .p-of .ensures) (search needs) }
+mul-t5 c =
+    let low = halves-low _ _ _ (search needs) (c .before .m-of .ensures) (c .p-of .ensures) in
+    let height = low .0 in
+    let width = low .1 in
+    record { fits = area-fits _ _ (omega arith) (omega arith) }
 
 returns : tie.Need-returns
 returns c = found-is _ _ _ _ (c .before .m-of .ensures) (c .p-of .ensures)
