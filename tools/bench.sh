@@ -4,8 +4,8 @@
 #
 #     bash tools/bench.sh
 #
-# It needs x86-64, the Rattle kit (rt), gcc, valgrind and python3. Where the crates are proved (`rt check`) it takes one
-# to three minutes. A first run on a fresh clone also proves the crates: about ten minutes more on two cores.
+# It needs x86-64, the Rattle kit (rt), gcc, valgrind and python3. Where the crates are proved (`rt check`) it takes a
+# minute. A first run on a fresh clone also proves them: four minutes in all on two cores.
 #
 # bench/rattle.rt.txt makes a static library of the proved calls, and the C programs of bench/ link it. callgrind counts
 # what is executed inside each function, so the counts are the same on every run.
