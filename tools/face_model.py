@@ -5,6 +5,8 @@ is meant to be read beside that text, so it is plain and slow: it builds the tre
 Words between quotation marks are the document's.
 """
 
+import dataclasses
+
 
 class Refused(Exception):
     """A question was answered by no: its number."""
@@ -14,13 +16,13 @@ class Refused(Exception):
         self.number = number
 
 
+@dataclasses.dataclass
 class Face:
     """A taken file: its tree, and for each gauge in file order the bytes of its sizes and the sizes. A tree is
     ("gauge",), or a join with its older and its newer part: ("beside", older, newer) or ("stacked", older, newer)."""
 
-    def __init__(self, tree, gauges):
-        self.tree = tree
-        self.gauges = gauges
+    tree: tuple
+    gauges: list
 
     def gauge_count(self):
         return len(self.gauges)

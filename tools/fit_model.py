@@ -9,6 +9,7 @@ and `best_by_places` look for the smallest area without any list: over all choic
 together, and, for the smallest faces, over all sizes and all places in the opening.
 """
 
+import dataclasses
 import functools
 import itertools
 
@@ -19,28 +20,28 @@ import list_model
 OPENING = 64000
 
 
+@dataclasses.dataclass
 class Part:
     """A part of the face: its join or "gauge", its list by falling height, its two parts, and the numbers from 0 of
     its first gauge and of the one after its last."""
 
-    def __init__(self, join, items, older, newer, first, end):
-        self.join = join
-        self.items = items
-        self.older = older
-        self.newer = newer
-        self.first = first
-        self.end = end
+    join: str
+    items: list
+    older: "Part"
+    newer: "Part"
+    first: int
+    end: int
 
 
+@dataclasses.dataclass
 class Placed:
     """Where a gauge stands: the number of its size within the gauge, across, up, width and height."""
 
-    def __init__(self, size, across, up, width, height):
-        self.size = size
-        self.across = across
-        self.up = up
-        self.width = width
-        self.height = height
+    size: int
+    across: int
+    up: int
+    width: int
+    height: int
 
     def words(self):
         # "Output, per gauge: size number within the gauge, across, up, width, height."
@@ -197,18 +198,18 @@ def best_by_places(face, height, width):
 # The fit call
 
 
+@dataclasses.dataclass
 class Fitted:
     """What the fit call gives: its number; where that is 0 also the fields and the output's words; where that is 0 or
     19 the walk of the list in the arena."""
 
-    def __init__(self, number, height=0, width=0, area=0, count=0, words=(), walked=()):
-        self.number = number
-        self.height = height
-        self.width = width
-        self.area = area
-        self.count = count
-        self.words = words
-        self.walked = walked
+    number: int
+    height: int = 0
+    width: int = 0
+    area: int = 0
+    count: int = 0
+    words: tuple = ()
+    walked: tuple = ()
 
     def fields(self):
         return [self.number, self.height, self.width, self.area, self.count]

@@ -6,6 +6,7 @@ part's list is every pair of its parts' items, with the inferior ones taken out.
 of face_model.py. Words between quotation marks are the document's.
 """
 
+import dataclasses
 import functools
 import itertools
 
@@ -15,13 +16,13 @@ import face_model
 WORDS = 16384
 
 
+@dataclasses.dataclass(frozen=True)
 class Item:
     """An outer size, with the number of the size whose record holds it."""
 
-    def __init__(self, height, width, record):
-        self.height = height
-        self.width = width
-        self.record = record
+    height: int
+    width: int
+    record: int
 
 
 # ---------------------------------------------------------------------------------------------------------------
@@ -141,14 +142,14 @@ def sizes_by_choices(face):
 # Lazy lists
 
 
+@dataclasses.dataclass
 class Walked:
     """What stands at a place of the walk by forward 1: the record, its level, its m and its true p."""
 
-    def __init__(self, record, level, m, p):
-        self.record = record
-        self.level = level
-        self.m = m
-        self.p = p
+    record: int
+    level: int
+    m: int
+    p: int
 
 
 def walk(face, items, levels):
@@ -175,13 +176,13 @@ def read_call(walked, place):
 # The list call
 
 
+@dataclasses.dataclass
 class Listed:
     """What the list call gives: its number; where that is 0 also the items and the walk."""
 
-    def __init__(self, number, items=(), walked=()):
-        self.number = number
-        self.items = items
-        self.walked = walked
+    number: int
+    items: tuple = ()
+    walked: tuple = ()
 
 
 def output_words(face):

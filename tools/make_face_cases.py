@@ -9,6 +9,7 @@ the question that decides it, and for a taken face its counts, D, E and the top 
 run on the same bytes, and the script stops where the model and the hand-written answer differ.
 """
 
+import dataclasses
 import sys
 
 sys.dont_write_bytecode = True
@@ -119,13 +120,13 @@ def tree_face(tree):
 CASES = []
 
 
+@dataclasses.dataclass
 class Case:
-    def __init__(self, name, file, number, reason, counts):
-        self.name = name
-        self.file = file
-        self.number = number
-        self.reason = reason
-        self.counts = counts
+    name: str
+    file: bytes
+    number: int
+    reason: str
+    counts: tuple
 
 
 def refused(name, file, number, reason):

@@ -12,6 +12,7 @@ where a face of few choices has a layout of another least area than the one that
 and, where the opening is small, over all places. What the program is to print comes from the model alone.
 """
 
+import dataclasses
 import sys
 
 sys.dont_write_bytecode = True
@@ -30,15 +31,15 @@ LARGEST = 64000
 # Cases
 
 
+@dataclasses.dataclass
 class Case:
     """A file: its number by hand, and by hand what some openings give. An opening is (height, width). What it gives is
     19, or for each gauge the number of its size, across and up."""
 
-    def __init__(self, name, file, number, by_hand):
-        self.name = name
-        self.file = file
-        self.number = number
-        self.by_hand = by_hand
+    name: str
+    file: bytes
+    number: int
+    by_hand: object
 
 
 BY_HAND = {}

@@ -11,6 +11,7 @@ the model and the hand-written answer differ. It also stops where a face of few 
 that all its choices make. What the program is to print comes from the model alone.
 """
 
+import dataclasses
 import sys
 
 sys.dont_write_bytecode = True
@@ -143,13 +144,13 @@ def few_heights(start, gauges):
 CASES = []
 
 
+@dataclasses.dataclass
 class Case:
-    def __init__(self, name, file, number, reason, by_hand):
-        self.name = name
-        self.file = file
-        self.number = number
-        self.reason = reason
-        self.by_hand = by_hand
+    name: str
+    file: bytes
+    number: int
+    reason: str
+    by_hand: object
 
 
 def refused(name, file, number, reason):

@@ -5,6 +5,8 @@ It is written from the text of document 01, "Milled instrument faces", and share
 forward and each true p is worked out from the whole walk. Words between quotation marks are the document's.
 """
 
+import dataclasses
+
 # "is the arena 16,384 words or more?"
 WORDS = 16384
 MODULUS = 4_294_967_296
@@ -39,14 +41,14 @@ class Arena:
         return self.word(record, 10 + i)
 
 
+@dataclasses.dataclass
 class Item:
     """A record of the walk, with its level, m and true p."""
 
-    def __init__(self, record, level, m, p):
-        self.record = record
-        self.level = level
-        self.m = m
-        self.p = p
+    record: int
+    level: int
+    m: int
+    p: int
 
     def fields(self):
         return self.record, self.level, self.m, self.p

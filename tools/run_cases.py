@@ -11,6 +11,7 @@ with words replaced; which words a list call leaves is in part free, so a first 
 holds what is fixed of them against the model, and only then are the cases made. No such case is in the stored files.
 """
 
+import dataclasses
 import argparse
 import random
 import subprocess
@@ -40,12 +41,12 @@ TEXT = 13_700
 TEXT_LEAST = 13_645
 
 
+@dataclasses.dataclass
 class Case:
     """The text of a case, and what is expected of it."""
 
-    def __init__(self, text, wanted):
-        self.text = text
-        self.wanted = wanted
+    text: str
+    wanted: str
 
 
 def text_of(call, file=b"", levels=b"", height=0, width=0, arena=0, scratch=0, output=0, after=""):

@@ -1,4 +1,4 @@
--- Document 01: "A program `faces` reads a file from standard input, fits it to 64,000 by 64,000 and prints as below, or one line such as `refused 4`." What it prints for a file's bytes, and what the function that makes that text asks and leaves.
+-- Document 01: "A program `faces` reads a file from standard input, fits it to 64,000 by 64,000 and prints as below, or one line such as `refused 4`." What it prints for a file's bytes, and what the function that makes that text leaves.
 use mathlib.Core.Path.{_≡_}
 use mathlib.Core.List.{List}
 use Prim.Native.Nat.{ℕ, _≤_, _<_}

@@ -33,7 +33,7 @@ fn put_all(levels: &mut [u8], level: u8) {
     }
 }
 
-// The level of a size in the scattered table. tools/make_list_cases.py states the same formula.
+// The level of a size in the scattered table. tools/make_list_cases.py and make_fit_cases.py state the same formula.
 fn scattered(size: usize) -> u8 {
     (1 + 181 * (size % 509) % 509 % 8) as u8
 }
