@@ -31,6 +31,11 @@ sum-split f l m (suc n) low high =
     ap (sumFrom f l) (sym same) ∙ omega arith)
     (λ p. omega (arith, sum-more f l n (omega arith), sum-more f m n p, sum-split f l m n low p))
 
+-- The first of the links taken apart.
+pub sum-first : (f : ℕ → ℕ) (l n : ℕ) → l < n → sumFrom f l n ≡ f l + sumFrom f (suc l) n
+sum-first f l n p =
+    omega (arith, sum-split f l (suc l) n (omega arith) p, sum-more f l l (omega arith), sum-none f l l (omega arith))
+
 -- A sum over the links from l up to n reads its function there alone.
 pub sum-agree : (f g : ℕ → ℕ) (l n : ℕ) → ((k : ℕ) → l ≤ k → k < n → g k ≡ f k) → sumFrom g l n ≡ sumFrom f l n
 unfolding sumFrom

@@ -8,7 +8,7 @@ use lib.ListN.{length}
 use Rattle.arena.specs.Arena.{stride, word, level, mWord, pWord}
 use Rattle.arena.specs.Chain.{Has, put, All, pUnder, trues, Same}
 use Rattle.arena.specs.Building.{hooked, Built, Fresh, Prepended}
-use Rattle.arena.specs.Turning.{swapped, turned1}
+use Rattle.arena.specs.Turning.{Suffixes, swapped, turned1}
 use Rattle.arena.proofs.PutLaws.{length-put, word-same, word-other-record, word-other-field, same-trans}
 use Rattle.arena.proofs.Frames.{all-map, same-value, built-frame, trues-frame}
 use Rattle.arena.proofs.PrependLaws.{prepended}
@@ -113,8 +113,8 @@ module _ (a : List ℕ) (r p m : ℕ) (b c : List ℕ) (first : b ≡ put a r 1 
       ∙ ap (λ (l : List ℕ). level l r) first
       ∙ word-other-field a r 1 p r 0 (λ e. omega arith) (omega arith) (omega arith)
 
-  pub stored-turned : (f : ℕ → ℕ) (h : ℕ) (d : List ℕ) → p ≡ pUnder a f r → m ≡ word a r 1 → d ≡ hooked (word c r 0) c h r → d ≡ turned1 a f h r
+  pub stored-turned : (sums : List ℕ) → ((f : ℕ → ℕ) → Suffixes f sums → p ≡ pUnder a f r) → m ≡ word a r 1 → (h : ℕ) (d : List ℕ) → d ≡ hooked (word c r 0) c h r → (f : ℕ → ℕ) → Suffixes f sums → d ≡ turned1 a f h r
   unfolding turned1 swapped
-  stored-turned f h d e g k =
-      let same : c ≡ swapped a f r = second ∙ ap₂ (λ (l : List ℕ) (v : ℕ). put l r 2 v) (first ∙ ap (put a r 1) e) g in
+  stored-turned sums e g h d k f s =
+      let same : c ≡ swapped a f r = second ∙ ap₂ (λ (l : List ℕ) (v : ℕ). put l r 2 v) (first ∙ ap (put a r 1) (e f s)) g in
       k ∙ ap₂ (λ (n : ℕ) (l : List ℕ). hooked n l h r) stored-level same

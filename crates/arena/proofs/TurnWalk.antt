@@ -4,13 +4,14 @@ use mathlib.Core.Path.{_≡_, refl, sym, ap, subst, _∙_}
 use mathlib.Core.List.{List, [], _∷_, reverseAux}
 use Prim.Native.Nat.{ℕ, _+_, _*_, _%_, _^_, _<_}
 use native.Mathlib.Omega.{arith}
-use lib.ListN.{length, getD}
+use lib.ListN.{length, getD, replicate}
 use Rattle.arena.specs.Arena.{stride, word, level, mWord, adjust}
-use Rattle.arena.specs.Chain.{Has, All, Linked, trues, Same}
+use Rattle.arena.specs.Chain.{Has, All, Linked, after, trues, Same}
 use Rattle.arena.specs.Building.{Cleared}
-use Rattle.arena.specs.Turning.{sumsIn, Summable, Summed, turned1, Turnable1, Turnable, Turned}
-use Rattle.arena.proofs.PutLaws.{same-refl, same-trans}
-use Rattle.arena.proofs.Frames.{all-map, all-refl, all-both, map-same, same-shape, same-value, linked-frame, after-in, trues-frame}
+use Rattle.arena.specs.Turning.{Suffixes, Summable, turned1, Turnable1, Turnable, Turned}
+use Rattle.arena.proofs.PutLaws.{same-trans}
+use Rattle.arena.proofs.Frames.{all-map, all-refl, all-both, map-same, same-shape, same-value, linked-frame, trues-frame}
+use Rattle.arena.proofs.Summing.{suffixes-head}
 use Rattle.arena.proofs.Walking.{count, next-none, next-first, count-is, one-list}
 use Rattle.arena.proofs.Turns.{Moved, Ready, moved-none, ready-more, moved-more}
 
@@ -27,28 +28,28 @@ module _ (a : List ℕ) (from to : ℕ) (rs b : List ℕ) (t : Turnable a from t
       linked-frame a b from rs (cleared .long) (same-shape a b from head-same)
       (all-map rs (same-shape a b) rest-same) (t .linked)
 
-  pub cleared-summable : (sums : List ℕ) → length sums ≡ 8 → Summable b from sums
+  pub cleared-summable : (sums : List ℕ) → length sums ≡ 9 → Summable b from sums
   cleared-summable sums e =
       let top = linked-cleared .top in
-      record { has = linked-cleared .has; high = omega arith; eight = e }
+      record { has = linked-cleared .has; low = omega arith; high = omega arith; nine = e }
 
--- The arena a is that with the new head cleared. Of its list rs of the old head the records qs are left.
+-- The arena a is that with the new head cleared. Of its list rs of the old head the records qs are left, and the words hold the sums f that lead to them.
 pub record Turning (a : List ℕ) (from to : ℕ) (b sums : List ℕ) (next : ℕ) : Type 0 where
   pub rs : List ℕ
   pub linked : Linked a from rs
   pub ds : List ℕ
   pub qs : List ℕ
   pub ready : Ready b to ds qs next
-  pub rest : (c : List ℕ) → Moved b (sumsIn sums) to ds qs c → Moved a (adjust a from) to [] rs c
-  pub eight : length sums ≡ 8
+  pub f : ℕ → ℕ
+  pub suffixes : Suffixes f sums
+  pub rest : (c : List ℕ) → Moved b f to ds qs c → Moved a (adjust a from) to [] rs c
   pub long : length b ≡ length a
   pub fits : next < 4_294_967_296
 
-pub turning-start : (a : List ℕ) (from to : ℕ) (b zeros sums : List ℕ) (next : ℕ) → (rs : List ℕ) × Turnable a from to rs → Cleared a to b → length zeros ≡ 8 → Summed b from zeros sums → next ≡ word b from 3 → next < 4_294_967_296 → Turning b from to b sums next
-turning-start a from to b zeros sums next (rs, t) cleared eight summed e fits =
+pub turning-start : (a : List ℕ) (from to : ℕ) (b sums : List ℕ) (next : ℕ) → (rs : List ℕ) × Turnable a from to rs → Cleared a to b → ((f : ℕ → ℕ) → Suffixes f (replicate 9 0) → Suffixes (after b f from) sums) → next ≡ word b from 3 → next < 4_294_967_296 → Turning b from to b sums next
+turning-start a from to b sums next (rs, t) cleared passed e fits =
     let linked = linked-cleared a from to rs b t cleared in
     let top = linked .top in
-    let start : (k : ℕ) → k < 8 → sumsIn sums k ≡ adjust b from k = λ k p. summed .at k p ∙ after-in b (sumsIn zeros) from k (omega arith) in
     record {
       rs = rs;
       linked = linked;
@@ -63,21 +64,9 @@ turning-start a from to b zeros sums next (rs, t) cleared eight summed e fits =
             apart = t .away;
             cross = all-refl rs (λ x. tt);
           };
-      rest =
-          λ c m. record {
-            long = m .long;
-            outside = m .outside;
-            kept = tt;
-            built = m .built;
-            levels = m .levels;
-            m-is =
-                m .m-is
-                ∙ trues-frame b b (adjust b from) (sumsIn sums) rs start
-                (all-refl rs (λ x. same-value b b x (same-refl b x)));
-            p-is = m .p-is;
-            true-p = m .true-p;
-          };
-      eight = summed .long ∙ eight;
+      f = adjust b from;
+      suffixes = suffixes-head b from sums top passed;
+      rest = λ c m. m;
       long = refl;
       fits = fits;
     }
@@ -89,13 +78,15 @@ record Left (a : List ℕ) (from to : ℕ) (b sums : List ℕ) (next : ℕ) : Ty
   pub ds : List ℕ
   pub qs : List ℕ
   pub ready : Ready b to ds (next ∷ qs) next
-  pub rest : (c : List ℕ) → Moved b (sumsIn sums) to ds (next ∷ qs) c → Moved a (adjust a from) to [] rs c
+  pub f : ℕ → ℕ
+  pub suffixes : Suffixes f sums
+  pub rest : (c : List ℕ) → Moved b f to ds (next ∷ qs) c → Moved a (adjust a from) to [] rs c
 
 module _ (a : List ℕ) (from to : ℕ) (b sums : List ℕ) (next : ℕ) (t : Turning a from to b sums next) (some : next ≡ 0 → ⊥) where
   left : Left a from to b sums next
   left = first (t .qs) (t .ready) (t .rest)
     where
-      first : (qs : List ℕ) → Ready b to (t .ds) qs next → ((c : List ℕ) → Moved b (sumsIn sums) to (t .ds) qs c → Moved a (adjust a from) to [] (t .rs) c) → Left a from to b sums next
+      first : (qs : List ℕ) → Ready b to (t .ds) qs next → ((c : List ℕ) → Moved b (t .f) to (t .ds) qs c → Moved a (adjust a from) to [] (t .rs) c) → Left a from to b sums next
       first [] ready rest = absurd (some (ready .next-is ∙ next-none b))
       first (q ∷ qs) ready rest =
           let e : q ≡ next = sym (ready .next-is ∙ next-first b q qs (ready .chain .0)) in
@@ -105,8 +96,10 @@ module _ (a : List ℕ) (from to : ℕ) (b sums : List ℕ) (next : ℕ) (t : Tu
             ds = t .ds;
             qs = qs;
             ready = subst (λ (x : ℕ). Ready b to (t .ds) (x ∷ qs) next) e ready;
+            f = t .f;
+            suffixes = t .suffixes;
             rest =
-                subst (λ (x : ℕ). (c : List ℕ) → Moved b (sumsIn sums) to (t .ds) (x ∷ qs) c → Moved a (adjust a from) to [] (t .rs) c) e rest;
+                subst (λ (x : ℕ). (c : List ℕ) → Moved b (t .f) to (t .ds) (x ∷ qs) c → Moved a (adjust a from) to [] (t .rs) c) e rest;
           }
 
   next-can : Turnable1 b to next sums
@@ -114,7 +107,7 @@ module _ (a : List ℕ) (from to : ℕ) (b sums : List ℕ) (next : ℕ) (t : Tu
       let m = left .ready .chain .0 in
       record {
         hookable = record { head-has = left .ready .built .linked .has; has = m .has; fits = t .fits };
-        summable = record { has = m .has; high = m .high; eight = t .eight };
+        summable = record { has = m .has; low = m .low; high = m .high; nine = t .suffixes .nine };
       }
 
   -- The record's number as the code has it.
@@ -125,15 +118,15 @@ module _ (a : List ℕ) (from to : ℕ) (b sums : List ℕ) (next : ℕ) (t : Tu
     pub turning-can : Turnable1 b to r sums
     turning-can = subst (λ (x : ℕ). Turnable1 b to x sums) (sym same) next-can
 
-    module _ (n : ℕ) (e : n ≡ word b r 3) (c : List ℕ) (f : c ≡ turned1 b (sumsIn sums) to r) where
+    module _ (n : ℕ) (e : n ≡ word b r 3) (c : List ℕ) (turned : (f : ℕ → ℕ) → Suffixes f sums → c ≡ turned1 b f to r) where
       e-next : n ≡ word b next 3
       e-next = e ∙ ap (λ (x : ℕ). word b x 3) same
 
-      f-next : c ≡ turned1 b (sumsIn sums) to next
-      f-next = f ∙ ap (turned1 b (sumsIn sums) to) same
+      turned-next : c ≡ turned1 b (left .f) to next
+      turned-next = turned (left .f) (left .suffixes) ∙ ap (turned1 b (left .f) to) same
 
       ready : Ready c to (next ∷ left .ds) (left .qs) n
-      ready = ready-more b (sumsIn sums) to next (left .ds) (left .qs) next (left .ready) c f-next n e-next
+      ready = ready-more b (left .f) to next (left .ds) (left .qs) next (left .ready) c turned-next n e-next
 
       pub turning-less : count 512 c n < count 512 b next
       turning-less =
@@ -143,19 +136,20 @@ module _ (a : List ℕ) (from to : ℕ) (b sums : List ℕ) (next : ℕ) (t : Tu
           let y = count-is 512 c (left .qs) n (new .chain) (new .next-is) (new .few) in
           omega arith
 
-      pub turning-more : (sums' : List ℕ) → Summed b r sums sums' → length c ≡ length b → n < 4_294_967_296 → Turning a from to c sums' n
-      turning-more sums' summed long fits =
-          let at : Summed b next sums sums' = subst (λ (x : ℕ). Summed b x sums sums') same summed in
+      pub turning-more : (sums' : List ℕ) → ((f : ℕ → ℕ) → Suffixes f sums → Suffixes (after b f r) sums') → length c ≡ length b → n < 4_294_967_296 → Turning a from to c sums' n
+      turning-more sums' passed long fits =
           record {
             rs = left .rs;
             linked = left .linked;
             ds = next ∷ left .ds;
             qs = left .qs;
             ready = ready;
+            f = after b (left .f) next;
+            suffixes =
+                subst (λ (x : ℕ). Suffixes (after b (left .f) x) sums') same (passed (left .f) (left .suffixes));
             rest =
                 λ d m. left .rest d
-                (moved-more b (sumsIn sums) to next (left .ds) (left .qs) next (left .ready) c f-next (sumsIn sums') (at .at) d m);
-            eight = summed .long ∙ t .eight;
+                (moved-more b (left .f) to next (left .ds) (left .qs) next (left .ready) c turned-next d m);
             long = long ∙ t .long;
             fits = fits;
           }
@@ -171,8 +165,8 @@ left-none b h ds (q ∷ qs) next ready e =
 moved-all : (a : List ℕ) (from to : ℕ) (b sums : List ℕ) (next : ℕ) (t : Turning a from to b sums next) → next ≡ 0 → Moved a (adjust a from) to [] (t .rs) b
 moved-all a from to b sums next t e =
     t .rest b
-    (subst (λ (qs : List ℕ). Moved b (sumsIn sums) to (t .ds) qs b) (sym (left-none b to (t .ds) (t .qs) next (t .ready) e))
-    (moved-none b (sumsIn sums) to (t .ds) (t .ready .built)))
+    (subst (λ (qs : List ℕ). Moved b (t .f) to (t .ds) qs b) (sym (left-none b to (t .ds) (t .qs) next (t .ready) e))
+    (moved-none b (t .f) to (t .ds) (t .ready .built)))
 
 pub turning-done : (a : List ℕ) (from to : ℕ) (b c sums : List ℕ) (next : ℕ) → ((i : ℕ) → getD a i 0 < 4_294_967_296) → Cleared a to b → Turning b from to c sums next → next ≡ 0 → (rs : List ℕ) → Turnable a from to rs → Turned a from to rs c
 unfolding trues word

@@ -89,9 +89,9 @@ module _ (a : List ℕ) (f : ℕ → ℕ) (h r : ℕ) (ds qs : List ℕ) (next :
             (ready .cross .1);
       }
 
-  pub moved-more : (g : ℕ → ℕ) → ((k : ℕ) → k < 8 → g k ≡ after a f r k) → (c : List ℕ) → Moved b g h (r ∷ ds) qs c → Moved a f h ds (r ∷ qs) c
+  pub moved-more : (c : List ℕ) → Moved b (after a f r) h (r ∷ ds) qs c → Moved a f h ds (r ∷ qs) c
   unfolding trues
-  moved-more g w c t =
+  moved-more c t =
       record {
         long = t .long ∙ one .long;
         outside =
@@ -108,7 +108,7 @@ module _ (a : List ℕ) (f : ℕ → ℕ) (h r : ℕ) (ds qs : List ℕ) (next :
         );
         m-is =
             ap₂ _∷_ (t .kept .0 1 (omega arith) ∙ one .m-is)
-            (t .m-is ∙ trues-frame a b (after a f r) g qs w (all-map qs (same-value a b) left-same));
+            (t .m-is ∙ trues-frame a b (after a f r) (after a f r) qs (λ k w. refl) (all-map qs (same-value a b) left-same));
         p-is =
             ap₂ _∷_ (t .kept .0 2 (omega arith) ∙ one .p-is)
             (t .p-is

@@ -1,26 +1,24 @@
 -- How a list is turned: m and p change places and the order reverses. No public contract cites it.
 use mathlib.Core.Path.{_≡_}
 use mathlib.Core.List.{List, map, reverse}
-use Prim.Native.Nat.{ℕ, _≤_, _<_}
+use Prim.Native.Nat.{ℕ, _%_, _^_, _≤_}
 use lib.ListN.{length, getD}
 use Rattle.arena.specs.Arena.{level, mWord, pWord, adjust}
-use Rattle.arena.specs.Chain.{Has, put, All, Away, Linked, pUnder, after, trues, Same}
+use Rattle.arena.specs.Lazy.{sumFrom}
+use Rattle.arena.specs.Chain.{Has, put, All, Away, Linked, pUnder, trues, Same}
 use Rattle.arena.specs.Building.{hooked, Hookable, Built}
 
--- Running sums held in words.
-abbrev pub sumsIn : List ℕ → ℕ → ℕ
-sumsIn sums k = getD sums k 0
+-- The running sums f as nine words: word l is the sum over the links from l up. Word 0 is not said, since a record has a level of 1 or more and its true p counts no link below it.
+pub record Suffixes (f : ℕ → ℕ) (sums : List ℕ) : Type 0 where
+  pub nine : length sums ≡ 9
+  pub at : (l : ℕ) → 1 ≤ l → l ≤ 8 → getD sums l 0 ≡ sumFrom f l 8 % 2 ^ 32
 
--- A record whose level and whose eight sums can be read.
+-- A record that has a level, and as many sums as are needed for it.
 pub record Summable (a : List ℕ) (r : ℕ) (sums : List ℕ) : Type 0 where
   pub has : Has a r
+  pub low : 1 ≤ level a r
   pub high : level a r ≤ 8
-  pub eight : length sums ≡ 8
-
--- The sums after record r.
-pub record Summed (a : List ℕ) (r : ℕ) (sums left : List ℕ) : Type 0 where
-  pub long : length left ≡ length sums
-  pub at : (k : ℕ) → k < 8 → getD left k 0 ≡ after a (sumsIn sums) r k
+  pub nine : length sums ≡ 9
 
 -- Record r with its true p as m and its m as p.
 unfoldable pub swapped : List ℕ → (ℕ → ℕ) → ℕ → List ℕ

@@ -1,3 +1,4 @@
+pub mod Adding
 pub mod SearchLaws
 pub mod LiftLaws
 pub mod Raising

@@ -4,52 +4,55 @@ use mathlib.Core.Path.{_≡_, refl, sym, ap, ap₂, _∙_}
 use mathlib.Core.List.{List, [], _∷_}
 use Prim.Native.Nat.{ℕ, _+_, _*_, _/_, _≤_}
 use native.Mathlib.Omega.{arith}
-use lib.ListN.{length}
+use lib.ListN.{length, replicate}
 use lib.Seq.{sets}
 use Rattle.slicing.specs.Item.{Item}
 use Rattle.slicing.specs.Recorded.{items}
 use Rattle.arena.specs.Arena.{word, adjust}
 use Rattle.arena.specs.Lazy.{held}
-use Rattle.arena.specs.Chain.{pUnder, trues}
-use Rattle.arena.specs.Turning.{sumsIn, Summable, Summed}
+use Rattle.arena.specs.Chain.{pUnder, after, trues}
+use Rattle.arena.specs.Turning.{Suffixes, Summable}
+use Rattle.arena.proofs.Summing.{suffixes-head}
 use Rattle.merging.specs.Carried.{carried}
 use Rattle.shapes.specs.Listing.{listWords, writtenOver}
 use Rattle.shapes.specs.Writing.{Listable, itemAt}
 use Rattle.shapes.proofs.ListWalk.{Walk, walk-start, walk-summable, walk-know, walk-more, walk-done}
 use Rattle.shapes.proofs.WordLaws.{words-length, over-sets, sets-more, length-item}
-use Rattle.shapes.proofs.ItemLaws.{itemsOf, items-length, items-start, items-more, items-held}
+use Rattle.shapes.proofs.ItemLaws.{itemsOf, items-first, items-length, items-held}
 
--- The items of qs are left to write from the place `at`, of those of rs.
+-- The items of qs are left to write from the place `at`, of those of rs, and the words hold the sums f that lead to them.
 pub record Onward (a : List ℕ) (h : ℕ) (old out sums : List ℕ) (at : ℕ) (rs qs : List ℕ) : Type 0 where
-  pub eight : length sums ≡ 8
+  pub f : ℕ → ℕ
+  pub suffixes : Suffixes f sums
   pub long : length out ≡ length old
   pub room : 2 * length rs ≤ length old
   pub place : at + 2 * length qs ≡ 2 * length rs
-  pub rest : sets out at (listWords (itemsOf a (sumsIn sums) qs)) ≡ sets old 0 (listWords (itemsOf a (adjust a h) rs))
+  pub rest : sets out at (listWords (itemsOf a f qs)) ≡ sets old 0 (listWords (itemsOf a (adjust a h) rs))
 
 abbrev pub Heights : List ℕ → ℕ → List ℕ → List ℕ → List ℕ → ℕ → ℕ → Type 0
 Heights a h old out sums next at = Walk a h next (Onward a h old out sums at)
 
 -- The sums can be entered at the head.
-pub head-summable : (a : List ℕ) (h : ℕ) (out zeros : List ℕ) → (rs : List ℕ) × Listable a h rs out → length zeros ≡ 8 → Summable a h zeros
+pub head-summable : (a : List ℕ) (h : ℕ) (out zeros : List ℕ) → (rs : List ℕ) × Listable a h rs out → length zeros ≡ 9 → Summable a h zeros
 head-summable a h out zeros (rs, t) e =
     let top = t .linked .top in
-    record { has = t .linked .has; high = omega arith; eight = e }
+    record { has = t .linked .has; low = omega arith; high = omega arith; nine = e }
 
-pub heights-start : (a : List ℕ) (h : ℕ) (out zeros sums : List ℕ) (next : ℕ) → (rs : List ℕ) × Listable a h rs out → length zeros ≡ 8 → Summed a h zeros sums → next ≡ word a h 3 → Heights a h out out sums next 0
-heights-start a h out zeros sums next (rs, t) eight summed e =
+pub heights-start : (a : List ℕ) (h : ℕ) (out sums : List ℕ) (next : ℕ) → (rs : List ℕ) × Listable a h rs out → ((f : ℕ → ℕ) → Suffixes f (replicate 9 0) → Suffixes (after a f h) sums) → next ≡ word a h 3 → Heights a h out out sums next 0
+heights-start a h out sums next (rs, t) passed e =
     walk-start a h rs next (Onward a h out out sums 0) (t .linked) (t .few) e
     (record {
-      eight = summed .long ∙ eight;
+      f = adjust a h;
+      suffixes = suffixes-head a h sums (t .linked .top) passed;
       long = refl;
       room = t .room;
       place = omega arith;
-      rest = ap (λ (l : List Item). sets out 0 (listWords l)) (items-start a h zeros sums rs (t .linked .top) summed);
+      rest = refl;
     })
 
 module _ (a : List ℕ) (h : ℕ) (old out sums : List ℕ) (next at : ℕ) (w : Heights a h old out sums next at) (some : next ≡ 0 → ⊥) (r : ℕ) (same : r ≡ next) where
   pub heights-summable : Summable a r sums
-  heights-summable = walk-summable a h next (Onward a h old out sums at) w some r same sums (w .state .eight)
+  heights-summable = walk-summable a h next (Onward a h old out sums at) w some r same sums (w .state .suffixes .nine)
 
   pub heights-room : at + 2 ≤ length out
   heights-room =
@@ -60,27 +63,28 @@ module _ (a : List ℕ) (h : ℕ) (old out sums : List ℕ) (next at : ℕ) (w :
       let place = s .place in
       omega arith)
 
-  pub heights-more : (x y : ℕ) (out' sums' : List ℕ) (n : ℕ) → x ≡ word a r 1 → y ≡ pUnder a (sumsIn sums) r → out' ≡ itemAt out at x y → Summed a r sums sums' → n ≡ word a r 3 → Heights a h old out' sums' n (at + 2)
+  pub heights-more : (x y : ℕ) (out' sums' : List ℕ) (n : ℕ) → x ≡ word a r 1 → ((f : ℕ → ℕ) → Suffixes f sums → y ≡ pUnder a f r) → out' ≡ itemAt out at x y → ((f : ℕ → ℕ) → Suffixes f sums → Suffixes (after a f r) sums') → n ≡ word a r 3 → Heights a h old out' sums' n (at + 2)
   unfolding listWords
-  heights-more x y out' sums' n x-is y-is f summed e =
+  heights-more x y out' sums' n x-is y-is out-is passed e =
       walk-more a h next (Onward a h old out sums at) w some r same n e (Onward a h old out' sums' (at + 2))
       (λ rs qs s.
       let place = s .place in
       record {
-        eight = summed .long ∙ s .eight;
-        long = ap length f ∙ length-item out at x y ∙ s .long;
+        f = after a (s .f) r;
+        suffixes = passed (s .f) (s .suffixes);
+        long = ap length out-is ∙ length-item out at x y ∙ s .long;
         room = s .room;
         place = omega arith;
         rest =
-            ap (λ (l : List ℕ). sets l (at + 2) (listWords (itemsOf a (sumsIn sums') qs))) f
-            ∙ stored qs ∙ s .rest;
+            ap (λ (l : List ℕ). sets l (at + 2) (listWords (itemsOf a (after a (s .f) r) qs))) out-is
+            ∙ stored (s .f) (y-is (s .f) (s .suffixes)) qs ∙ s .rest;
       })
     where
-      stored : (qs : List ℕ) → sets (itemAt out at x y) (at + 2) (listWords (itemsOf a (sumsIn sums') qs)) ≡ sets out at (listWords (itemsOf a (sumsIn sums) (r ∷ qs)))
-      stored qs =
-          sets-more out at x y (listWords (itemsOf a (sumsIn sums') qs))
-          ∙ ap₂ (λ (u : ℕ) (v : ℕ). sets out at (u ∷ v ∷ listWords (itemsOf a (sumsIn sums') qs))) x-is y-is
-          ∙ ap (λ (l : List Item). sets out at (listWords l)) (sym (items-more a r sums sums' qs summed))
+      stored : (f : ℕ → ℕ) → y ≡ pUnder a f r → (qs : List ℕ) → sets (itemAt out at x y) (at + 2) (listWords (itemsOf a (after a f r) qs)) ≡ sets out at (listWords (itemsOf a f (r ∷ qs)))
+      stored f p-is qs =
+          sets-more out at x y (listWords (itemsOf a (after a f r) qs))
+          ∙ ap₂ (λ (u : ℕ) (v : ℕ). sets out at (u ∷ v ∷ listWords (itemsOf a (after a f r) qs))) x-is p-is
+          ∙ ap (λ (l : List Item). sets out at (listWords l)) (sym (items-first a f r qs))
 
 -- At the end the buffer is what all items give.
 pub heights-done : (a : List ℕ) (h : ℕ) (old out sums : List ℕ) (next at : ℕ) → Heights a h old out sums next at → next ≡ 0 → (rs : List ℕ) → Listable a h rs old → (at / 2 ≡ length rs) × (out ≡ writtenOver (listWords (items (held a h [] rs))) old)

@@ -66,8 +66,9 @@ module _ (a : List ℕ) (h next : ℕ) (P : List ℕ → List ℕ → Type 0) (w
   pub walk-has : Has a r
   walk-has = ahead .member .has
 
-  pub walk-summable : (sums : List ℕ) → length sums ≡ 8 → Summable a r sums
-  walk-summable sums e = record { has = ahead .member .has; high = ahead .member .high; eight = e }
+  pub walk-summable : (sums : List ℕ) → length sums ≡ 9 → Summable a r sums
+  walk-summable sums e =
+      record { has = ahead .member .has; low = ahead .member .low; high = ahead .member .high; nine = e }
 
   -- What P says while a record is left.
   pub walk-know : {C : Type 0} → ((rs qs : List ℕ) → P rs (r ∷ qs) → C) → C

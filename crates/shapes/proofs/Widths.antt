@@ -4,33 +4,35 @@ use mathlib.Core.Path.{_≡_, refl, sym, ap, ap₂, _∙_}
 use mathlib.Core.List.{List, [], _∷_, _++_}
 use Prim.Native.Nat.{ℕ, _+_, _*_, _-_, _≤_}
 use native.Mathlib.Omega.{arith}
-use lib.ListN.{length}
+use lib.ListN.{length, replicate}
 use Rattle.slicing.specs.Item.{Item, size}
 use Rattle.slicing.specs.Recorded.{items}
 use Rattle.slicing.specs.Merge.{turn}
 use Rattle.slicing.proofs.TurnLaws.{turn-length}
 use Rattle.arena.specs.Arena.{word, mWord, adjust}
 use Rattle.arena.specs.Lazy.{held}
-use Rattle.arena.specs.Chain.{pUnder, trues}
-use Rattle.arena.specs.Turning.{sumsIn, Summable, Summed}
+use Rattle.arena.specs.Chain.{pUnder, after, trues}
+use Rattle.arena.specs.Turning.{Suffixes, Summable}
+use Rattle.arena.proofs.Summing.{suffixes-head}
 use Rattle.merging.specs.Carried.{carried}
 use Rattle.shapes.specs.Listing.{listWords, writtenOver}
 use Rattle.shapes.specs.Writing.{Countable, Listable, itemAt}
 use Rattle.shapes.proofs.ListWalk.{Walk, walk-start, walk-summable, walk-know, walk-more, walk-done}
 use Rattle.shapes.proofs.WordLaws.{words-length, turned-words, over-more, length-item}
-use Rattle.shapes.proofs.ItemLaws.{itemsOf, items-length, items-start, items-more, items-held}
+use Rattle.shapes.proofs.ItemLaws.{itemsOf, items-first, items-length, items-held}
 
 -- The words of the turned items of rs, entered with the sums f.
 abbrev turnedWords : List ℕ → (ℕ → ℕ) → List ℕ → List ℕ
 turnedWords a f rs = listWords (turn (itemsOf a f rs))
 
--- The items of qs are left to write before the place `at`, of those of rs.
+-- The items of qs are left to write before the place `at`, of those of rs, and the words hold the sums f that lead to them.
 pub record Backward (a : List ℕ) (h : ℕ) (old out sums : List ℕ) (at : ℕ) (rs qs : List ℕ) : Type 0 where
-  pub eight : length sums ≡ 8
+  pub f : ℕ → ℕ
+  pub suffixes : Suffixes f sums
   pub long : length out ≡ length old
   pub room : at ≤ length old
   pub place : at ≡ 2 * length qs
-  pub rest : writtenOver (turnedWords a (sumsIn sums) qs) out ≡ writtenOver (turnedWords a (adjust a h) rs) old
+  pub rest : writtenOver (turnedWords a f qs) out ≡ writtenOver (turnedWords a (adjust a h) rs) old
 
 abbrev pub Widths : List ℕ → ℕ → List ℕ → List ℕ → List ℕ → ℕ → ℕ → Type 0
 Widths a h old out sums next at = Walk a h next (Backward a h old out sums at)
@@ -47,19 +49,18 @@ counted-room a h out n (rs, t) counted =
     let room = t .room in
     omega arith
 
-pub widths-start : (a : List ℕ) (h : ℕ) (out zeros sums : List ℕ) (next n : ℕ) → (rs : List ℕ) × Listable a h rs out → ((rs : List ℕ) → Countable a h rs → n ≡ length rs) → length zeros ≡ 8 → Summed a h zeros sums → next ≡ word a h 3 → Widths a h out out sums next (2 * n)
-widths-start a h out zeros sums next n (rs, t) counted eight summed e =
+pub widths-start : (a : List ℕ) (h : ℕ) (out sums : List ℕ) (next n : ℕ) → (rs : List ℕ) × Listable a h rs out → ((rs : List ℕ) → Countable a h rs → n ≡ length rs) → ((f : ℕ → ℕ) → Suffixes f (replicate 9 0) → Suffixes (after a f h) sums) → next ≡ word a h 3 → Widths a h out out sums next (2 * n)
+widths-start a h out sums next n (rs, t) counted passed e =
     let many = counted rs (countable a h rs out t) in
     let fits = t .room in
     walk-start a h rs next (Backward a h out out sums (2 * n)) (t .linked) (t .few) e
     (record {
-      eight = summed .long ∙ eight;
+      f = adjust a h;
+      suffixes = suffixes-head a h sums (t .linked .top) passed;
       long = refl;
       room = omega arith;
       place = omega arith;
-      rest =
-          ap (λ (l : List Item). writtenOver (listWords (turn l)) out)
-          (items-start a h zeros sums rs (t .linked .top) summed);
+      rest = refl;
     })
 
 turned-length : (a : List ℕ) (f : ℕ → ℕ) (rs : List ℕ) → length (turnedWords a f rs) ≡ 2 * length rs
@@ -71,7 +72,7 @@ turned-length a f rs =
 
 module _ (a : List ℕ) (h : ℕ) (old out sums : List ℕ) (next at : ℕ) (w : Widths a h old out sums next at) (some : next ≡ 0 → ⊥) (r : ℕ) (same : r ≡ next) where
   pub widths-summable : Summable a r sums
-  widths-summable = walk-summable a h next (Backward a h old out sums at) w some r same sums (w .state .eight)
+  widths-summable = walk-summable a h next (Backward a h old out sums at) w some r same sums (w .state .suffixes .nine)
 
   pub widths-two : 2 ≤ at
   widths-two =
@@ -88,33 +89,34 @@ module _ (a : List ℕ) (h : ℕ) (old out sums : List ℕ) (next at : ℕ) (w :
       omega arith
 
   -- The words left behind the record that is stored.
-  stored : (x y : ℕ) (sums' : List ℕ) → x ≡ pUnder a (sumsIn sums) r → y ≡ word a r 1 → Summed a r sums sums' → (qs : List ℕ) → at ≡ 2 * length (r ∷ qs) → writtenOver (turnedWords a (sumsIn sums') qs) (itemAt out (at - 2) x y) ≡ writtenOver (turnedWords a (sumsIn sums) (r ∷ qs)) out
-  stored x y sums' x-is y-is summed qs place =
-      let ws = turnedWords a (sumsIn sums') qs in
-      let many : length ws ≡ 2 * length qs = turned-length a (sumsIn sums') qs in
+  stored : (x y : ℕ) (f : ℕ → ℕ) → x ≡ pUnder a f r → y ≡ word a r 1 → (qs : List ℕ) → at ≡ 2 * length (r ∷ qs) → writtenOver (turnedWords a (after a f r) qs) (itemAt out (at - 2) x y) ≡ writtenOver (turnedWords a f (r ∷ qs)) out
+  stored x y f x-is y-is qs place =
+      let ws = turnedWords a (after a f r) qs in
+      let many : length ws ≡ 2 * length qs = turned-length a (after a f r) qs in
       let here : at - 2 ≡ length ws = omega arith in
       let room = widths-room in
       ap (λ (i : ℕ). writtenOver ws (itemAt out i x y)) here
       ∙ over-more ws out x y (omega arith)
       ∙ ap₂ (λ (u : ℕ) (v : ℕ). writtenOver (ws ++ (u ∷ v ∷ [])) out) x-is y-is
       ∙ ap (λ (l : List ℕ). writtenOver l out)
-      (sym (turned-words (size (mWord a r) (pUnder a (sumsIn sums) r)) (itemsOf a (sumsIn sums') qs)))
-      ∙ ap (λ (l : List Item). writtenOver (listWords (turn l)) out) (sym (items-more a r sums sums' qs summed))
+      (sym (turned-words (size (mWord a r) (pUnder a f r)) (itemsOf a (after a f r) qs)))
+      ∙ ap (λ (l : List Item). writtenOver (listWords (turn l)) out) (sym (items-first a f r qs))
 
-  pub widths-more : (x y : ℕ) (out' sums' : List ℕ) (n : ℕ) → x ≡ pUnder a (sumsIn sums) r → y ≡ word a r 1 → out' ≡ itemAt out (at - 2) x y → Summed a r sums sums' → n ≡ word a r 3 → Widths a h old out' sums' n (at - 2)
-  widths-more x y out' sums' n x-is y-is f summed e =
+  pub widths-more : (x y : ℕ) (out' sums' : List ℕ) (n : ℕ) → ((f : ℕ → ℕ) → Suffixes f sums → x ≡ pUnder a f r) → y ≡ word a r 1 → out' ≡ itemAt out (at - 2) x y → ((f : ℕ → ℕ) → Suffixes f sums → Suffixes (after a f r) sums') → n ≡ word a r 3 → Widths a h old out' sums' n (at - 2)
+  widths-more x y out' sums' n x-is y-is out-is passed e =
       walk-more a h next (Backward a h old out sums at) w some r same n e (Backward a h old out' sums' (at - 2))
       (λ rs qs s.
       let place = s .place in
       let room = s .room in
       record {
-        eight = summed .long ∙ s .eight;
-        long = ap length f ∙ length-item out (at - 2) x y ∙ s .long;
+        f = after a (s .f) r;
+        suffixes = passed (s .f) (s .suffixes);
+        long = ap length out-is ∙ length-item out (at - 2) x y ∙ s .long;
         room = omega arith;
         place = omega arith;
         rest =
-            ap (λ (l : List ℕ). writtenOver (turnedWords a (sumsIn sums') qs) l) f
-            ∙ stored x y sums' x-is y-is summed qs place ∙ s .rest;
+            ap (λ (l : List ℕ). writtenOver (turnedWords a (after a (s .f) r) qs) l) out-is
+            ∙ stored x y (s .f) (x-is (s .f) (s .suffixes)) y-is qs place ∙ s .rest;
       })
 
 -- At the end the buffer is what all items give.

@@ -41,7 +41,7 @@ pub fn write_by_height(arena: &[u32], head: usize, output: &mut [u32]) -> usize
     requires { ⌜ ((rs : List ℕ) × Listable (now arena) head rs (now output)) ⌝ }
     ensures { λ r. ⌜ ((rs : List ℕ) → Listable (now (arena .entry)) head rs (now (output .entry)) → (r ≡ length rs) × (now (output .exit) ≡ writtenOver (listWords (items (held (now (arena .entry)) head [] rs))) (now (output .entry)))) ⌝ }
 {
-    let mut sums = [0u32; 8];
+    let mut sums = [0u32; 9];
     pass(arena, head, &mut sums);
     let mut next = get(arena, head, 3);
     let mut at = 0;
@@ -64,7 +64,7 @@ pub fn write_by_width(arena: &[u32], head: usize, output: &mut [u32]) -> usize
     ensures { λ r. ⌜ ((rs : List ℕ) → Listable (now (arena .entry)) head rs (now (output .entry)) → (r ≡ length rs) × (now (output .exit) ≡ writtenOver (listWords (turn (items (held (now (arena .entry)) head [] rs)))) (now (output .entry)))) ⌝ }
 {
     let count = count_items(arena, head);
-    let mut sums = [0u32; 8];
+    let mut sums = [0u32; 9];
     pass(arena, head, &mut sums);
     let mut next = get(arena, head, 3);
     let mut at = 2 * count;

@@ -1,7 +1,6 @@
 -- `arena::turn::turn` meets its contract.
 -- The loop keeps `Turning`, that all records are turned if those left are; the measure is their number, counted along the first link.
 use borrow.Author.Needs.{needs}
-use mathlib.Core.Path.{refl}
 use Rattle.arena.proofs.Walking.{count}
 use Rattle.arena.proofs.TurnWalk.{Turning, cleared-summable, turning-start, turning-has, turning-can, turning-less, turning-more, turning-done}
 use Rattle.arena.proofs.turn.turn.Statement.{statement}
@@ -30,7 +29,7 @@ loop-holds c =
     let at-pass = c .before .before .before in
     let at-clear-head = at-pass .before .before .before .before .before in
     let entry = at-clear-head .before .before .before in
-    turning-start _ _ _ _ _ _ _ (entry .pre) (at-clear-head .clear-head .ensures) refl (at-pass .pass .ensures) (c .get .ensures) (search needs)
+    turning-start _ _ _ _ _ _ (entry .pre) (at-clear-head .clear-head .ensures) (at-pass .pass .ensures) (c .get .ensures) (search needs)
 
 wide-requires : tie.Need-wide-requires Inv-loop μ-loop
 wide-requires c κs = search needs

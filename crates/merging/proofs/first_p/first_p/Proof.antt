@@ -3,7 +3,7 @@
 use Prim.Native.Nat.{_-_}
 use borrow.Author.Needs.{needs}
 use Rattle.arena.specs.Arena.{adjust}
-use Rattle.arena.proofs.Summing.{Adding, adding-start, adding-more, adding-done}
+use Rattle.merging.proofs.Adding.{Adding, adding-start, adding-more, adding-done}
 use Rattle.merging.proofs.first_p.first_p.Statement.{statement}
 use Rattle.merging.proofs.first_p.first_p.Tie as tie
 

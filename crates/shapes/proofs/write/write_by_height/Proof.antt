@@ -56,7 +56,14 @@ loop-less : tie.Need-loop-less Inv-loop μ-loop
 loop-less c = search (needs, walk-less)
 
 loop-again : tie.Need-loop-again Inv-loop μ-loop
-loop-again c = search (needs, heights-more)
+loop-again c =
+    let at-pass2 = c .before in
+    let at-write-item = at-pass2 .before .before .before .before in
+    let at-true-p = at-write-item .before .before in
+    let at-get3 = at-true-p .before .before in
+    let at-wide = at-get3 .before .before in
+    let at-loop-test = at-wide .before in
+    heights-more _ _ _ _ _ _ _ (at-loop-test .before .loop .inv) (at-loop-test .loop-test .taken) _ (at-wide .wide .ensures) _ _ _ _ _ (at-get3 .get3 .ensures) (at-true-p .true-p .ensures) (at-write-item .write-item .ensures) (at-pass2 .pass2 .ensures) (at-get3 .before .get2 .ensures)
 
 same-length : tie.Need-same-length Inv-loop μ-loop
 same-length c = search needs
