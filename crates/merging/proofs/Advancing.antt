@@ -72,7 +72,7 @@ module _ (a : List ℕ) (h hc key : ℕ) (cs : List ℕ) (r : ℕ) (rs cutc : Li
   whole : r ∷ rs ≡ fr ++ back
   whole = front-behind a key (r ∷ rs)
 
-  linked : Linked a h (fr ++ back)
+  pub linked : Linked a h (fr ++ back)
   linked = subst (λ (l : List ℕ). Linked a h l) whole (w .list .linked)
 
   cs-apart : All (λ x. Away x fr) cs
@@ -81,13 +81,13 @@ module _ (a : List ℕ) (h hc key : ℕ) (cs : List ℕ) (r : ℕ) (rs cutc : Li
   hc-apart : Away hc fr
   hc-apart = all-front (λ x. x ≡ hc → ⊥) a key (r ∷ rs) (w .result-away)
 
-  fr-some : All (λ x. 1 ≤ x) fr
+  pub fr-some : All (λ x. 1 ≤ x) fr
   fr-some = all-left (λ x. 1 ≤ x) fr back (chain-some a (fr ++ back) (linked .chain))
 
   fr-high : All (λ x. level a x ≤ 8) fr
   fr-high = all-left (λ x. level a x ≤ 8) fr back (chain-high a (fr ++ back) (linked .chain))
 
-  head-off : Away h fr
+  pub head-off : Away h fr
   head-off = all-left (λ x. x ≡ h → ⊥) fr back (linked .away)
 
   module _ (cut : List ℕ) (c : CutAt a h key (r ∷ rs) cut) where

@@ -14,6 +14,8 @@ pub mod ClosingLaws
 pub mod Relinking
 pub mod Closing
 pub mod Advancing
+pub mod Passing
+pub mod RunLaws
 pub mod CarriedLaws
 pub mod TrioLaws
 pub mod Steps

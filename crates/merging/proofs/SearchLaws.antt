@@ -48,13 +48,13 @@ passes-yes a r key e = by (leb 1 r) (leb key (mWord a r)) refl refl e
     by true false p q t = absurd (let z : _≡_ {A = ℕ} 0 1 = cc in omega arith)
     by false y p q t = absurd (let z : _≡_ {A = ℕ} 0 1 = cc in omega arith)
 
-passes-no : (a : List ℕ) (r key : ℕ) → passes a r key ≡ false → 1 ≤ r → mWord a r < key
+pub passes-no : (a : List ℕ) (r key : ℕ) → passes a r key ≡ false → 1 ≤ r → mWord a r < key
 unfolding passes
 passes-no a r key e h =
     leb-false key (mWord a r) (subst (λ (b : Bool). (b && leb key (mWord a r)) ≡ false) (le-leb 1 r h) e)
 
 -- Where the next record with link k does not pass, none in front has link k.
-none-in-front : (a : List ℕ) (k key : ℕ) (rs : List ℕ) → Chain a rs → Falling a rs → passes a (nextWith a k rs) key ≡ false → All (λ x. level a x ≤ k) (front a key rs)
+pub none-in-front : (a : List ℕ) (k key : ℕ) (rs : List ℕ) → Chain a rs → Falling a rs → passes a (nextWith a k rs) key ≡ false → All (λ x. level a x ≤ k) (front a key rs)
 unfolding front
 none-in-front a k key [] c f e = tt
 none-in-front a k key (r ∷ rs) c f e =

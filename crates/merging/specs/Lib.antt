@@ -5,6 +5,7 @@ pub mod Opening
 pub mod Open
 pub mod Settled
 pub mod Advance
+pub mod Walk
 pub mod Carried
 pub mod Trio
 pub mod Running

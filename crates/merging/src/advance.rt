@@ -3,21 +3,22 @@ ghost use mathlib.Core.List.{List, _∷_};
 ghost use Prim.Native.Nat.{ℕ};
 ghost use Rattle.merging.specs.Cut.{front};
 ghost use Rattle.merging.specs.Advance.{behind, Movable, Moved};
-use crate::open_sums::open_sums;
-use crate::relink::relink;
-use crate::search::search;
-use crate::settle::settle;
+use crate::cut_run::cut_run;
+use crate::search::may_pass;
+use crate::walk_run::walk_run;
+use arena::words::get;
+use arena::words::wide;
 
 // Moves the records in front of a list, those of m at least the key, behind the open list that ends at `cutc`, with
-// every true p raised by q. The list keeps the rest.
+// every true p raised by q. The list keeps the rest. A run in which no record has link 1 is one walk.
 pub fn advance(arena: &mut [u32], head: usize, key: u32, q: u32, cutc: &mut [usize])
     requires { ⌜ ((hc : ℕ) × (cs : List ℕ) × (r : ℕ) × (rs : List ℕ) × Movable (now arena) head hc key cs r rs (now cutc)) ⌝ }
     ensures { λ _. ⌜ ((hc : ℕ) (cs : List ℕ) (r : ℕ) (rs : List ℕ) → Movable (now (arena .entry)) head hc key cs r rs (now (cutc .entry)) → Moved (now (arena .entry)) (now (arena .exit)) head hc q cs (front (now (arena .entry)) key (r ∷ rs)) (behind (now (arena .entry)) key (r ∷ rs)) (now (cutc .exit))) ⌝ }
 {
-    let mut cut = [0usize; 8];
-    let mut sums = [0u32; 8];
-    search(arena, head, key, &mut cut);
-    let n = open_sums(arena, head, &cut, &mut sums);
-    settle(arena, head, &cut, cutc, n, q);
-    relink(arena, head, &cut, &sums, cutc, n);
+    let second = wide(get(arena, head, 4));
+    if may_pass(arena, second, key) {
+        cut_run(arena, head, key, q, cutc);
+    } else {
+        walk_run(arena, head, key, q, cutc);
+    }
 }

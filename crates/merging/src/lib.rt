@@ -1,6 +1,7 @@
 // The maxplus merge of two lazy lists in an arena: its parts, each proved with its effect on the lists.
 mod advance;
 mod close;
+mod cut_run;
 mod drop_first;
 mod first_p;
 pub mod merge;
@@ -12,3 +13,4 @@ mod relink;
 mod runs;
 mod search;
 mod settle;
+mod walk_run;

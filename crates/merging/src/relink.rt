@@ -8,7 +8,7 @@ use arena::words::get;
 use arena::words::store;
 
 // Moves the records of the head up to `to` behind `from` at link k, and makes adjust k of the head v.
-fn relink_one(arena: &mut [u32], head: usize, from: usize, to: usize, k: usize, v: u32)
+pub fn relink_one(arena: &mut [u32], head: usize, from: usize, to: usize, k: usize, v: u32)
     requires { ⌜ (k < 8) × Has (now arena) head × Has (now arena) from × Has (now arena) to ⌝ }
     ensures { λ _. ⌜ now (arena .exit) ≡ relinkOne (now (arena .entry)) head from to k v ⌝ }
 {

@@ -8,7 +8,7 @@ use arena::words::get;
 use arena::words::wide;
 
 // Whether there is a record, and its m is at least the key.
-fn may_pass(arena: &[u32], r: usize, key: u32) -> bool
+pub fn may_pass(arena: &[u32], r: usize, key: u32) -> bool
     requires { ⌜ Reachable (now arena) r ⌝ }
     ensures { λ b. ⌜ b ≡ passes (now (arena .entry)) r key ⌝ }
 {

@@ -17,7 +17,7 @@ fn next_carry(arena: &[u32], head: usize, last: usize, k: usize, carry: u32) -> 
 }
 
 // How much more the head has in its sums from link n on than the last records of the other list, modulo 4,294,967,296.
-fn sums_above(arena: &[u32], head: usize, cutc: &[usize], n: usize) -> u32
+pub fn sums_above(arena: &[u32], head: usize, cutc: &[usize], n: usize) -> u32
     requires { ⌜ n ≤ 8 ⌝ }
     requires { ⌜ Ends (now arena) head (now cutc) ⌝ }
     ensures { λ d. ⌜ Above (now (arena .entry)) head (now (cutc .entry)) n 8 d ⌝ }

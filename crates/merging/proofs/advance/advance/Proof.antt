@@ -1,52 +1,29 @@
--- `merging::advance::advance` meets its contract: the front stands behind the open list, raised, and the list keeps the rest.
--- The four calls are those whose effects `Advancing` puts together.
-use mathlib.Core.List.{_∷_}
-use Rattle.merging.proofs.Advancing.{cut-readable, can-settle, can-relink, moved}
+-- `merging::advance::advance` meets its contract, as each of the two ways that a run can go meets it.
+-- Where the next record with link 1 does not pass, no record in front has link 1.
 use borrow.Author.Needs.{needs}
+use Rattle.merging.proofs.Passing.{link-reach}
+use Rattle.merging.proofs.RunLaws.{second-stops}
 use Rattle.merging.proofs.advance.advance.Statement.{statement}
 use Rattle.merging.proofs.advance.advance.Tie as tie
 
-slice-aggregate-search : tie.Need-slice-aggregate-search
-slice-aggregate-search c = search needs
+get-requires : tie.Need-get-requires
+get-requires c κs = search needs
 
-search-requires : tie.Need-search-requires
-search-requires c κs = search needs
+wide-requires : tie.Need-wide-requires
+wide-requires c κs = search needs
 
-slice-aggregate-open-sums : tie.Need-slice-aggregate-open-sums
-slice-aggregate-open-sums c = search needs
+may-pass-requires : tie.Need-may-pass-requires
+may-pass-requires c κs = link-reach _ _ _ (c .before .before .before .before .before .before .pre .4 .list) 1 _ _ (search needs) (c .before .before .get .ensures) (c .before .wide .ensures)
 
-slice-aggregate-open-sums-2 : tie.Need-slice-aggregate-open-sums-2
-slice-aggregate-open-sums-2 c = search needs
+cut-run-requires : tie.Need-cut-run-requires
+cut-run-requires c κs = search needs
 
-open-sums-requires : tie.Need-open-sums-requires
-open-sums-requires c κs =
-    let at-search = c .before .before .before .before in
-    let entry = at-search .before .before .before .before .before in
-    (cut-readable _ _ (entry .pre .0) _ (entry .pre .1) (entry .pre .2) (entry .pre .3) _ (entry .pre .4) _ (at-search .search .ensures (entry .pre .2 ∷ entry .pre .3) (entry .pre .4 .list)), search needs)
-
-slice-aggregate-settle : tie.Need-slice-aggregate-settle
-slice-aggregate-settle c = search needs
-
-settle-requires : tie.Need-settle-requires
-settle-requires c κs =
-    let at-open-sums = c .before .before .before .before in
-    let at-search = at-open-sums .before .before .before .before .before in
-    let entry = at-search .before .before .before .before .before in
-    (_, _, can-settle _ _ (entry .pre .0) _ (entry .pre .1) (entry .pre .2) (entry .pre .3) _ (entry .pre .4) _ (at-search .search .ensures (entry .pre .2 ∷ entry .pre .3) (entry .pre .4 .list)) _ _ (at-open-sums .open-sums .ensures))
-
-slice-aggregate-relink : tie.Need-slice-aggregate-relink
-slice-aggregate-relink c = search needs
-
-slice-aggregate-relink-2 : tie.Need-slice-aggregate-relink-2
-slice-aggregate-relink-2 c = search needs
-
-relink-requires : tie.Need-relink-requires
-relink-requires c κs =
-    let at-settle = c .before .before .before .before .before .before in
-    let at-open-sums = at-settle .before .before .before .before .before in
-    let at-search = at-open-sums .before .before .before .before .before in
-    let entry = at-search .before .before .before .before .before in
-    (entry .pre .0, entry .pre .1, _, _, can-relink _ _ (entry .pre .0) _ (entry .pre .1) (entry .pre .2) (entry .pre .3) _ (entry .pre .4) _ (at-search .search .ensures (entry .pre .2 ∷ entry .pre .3) (entry .pre .4 .list)) _ _ (at-open-sums .open-sums .ensures) _ _ (at-settle .settle .ensures _ _ (can-settle _ _ (entry .pre .0) _ (entry .pre .1) (entry .pre .2) (entry .pre .3) _ (entry .pre .4) _ (at-search .search .ensures (entry .pre .2 ∷ entry .pre .3) (entry .pre .4 .list)) _ _ (at-open-sums .open-sums .ensures))))
+walk-run-requires : tie.Need-walk-run-requires
+walk-run-requires c κs =
+    let at-may-pass = c .before .before .before in
+    let at-wide = at-may-pass .before .before in
+    let entry = at-wide .before .before .before .before .before in
+    (entry .pre, second-stops _ _ _ _ _ _ (at-wide .before .get .ensures) (at-wide .wide .ensures) (at-may-pass .may-pass .ensures) (c .before .before .if1 .left))
 
 same-length : tie.Need-same-length
 same-length c = search needs
@@ -55,27 +32,29 @@ same-length-2 : tie.Need-same-length-2
 same-length-2 c = search needs
 
 returns : tie.Need-returns
-returns c hc cs r rs w =
-    let at-relink = c .before .before .before .before in
-    let at-settle = at-relink .before .before .before .before .before .before .before in
-    let at-open-sums = at-settle .before .before .before .before .before in
-    let at-search = at-open-sums .before .before .before .before .before in
-    moved _ _ hc _ cs r rs _ w _ (at-search .search .ensures (r ∷ rs) (w .list)) _ _ (at-open-sums .open-sums .ensures) _ _ (at-settle .settle .ensures _ _ (can-settle _ _ hc _ cs r rs _ w _ (at-search .search .ensures (r ∷ rs) (w .list)) _ _ (at-open-sums .open-sums .ensures))) _ _ (at-relink .relink .ensures hc cs _ _ (can-relink _ _ hc _ cs r rs _ w _ (at-search .search .ensures (r ∷ rs) (w .list)) _ _ (at-open-sums .open-sums .ensures) _ _ (at-settle .settle .ensures _ _ (can-settle _ _ hc _ cs r rs _ w _ (at-search .search .ensures (r ∷ rs) (w .list)) _ _ (at-open-sums .open-sums .ensures)))))
+returns c = search needs
+
+same-length-3 : tie.Need-same-length-3
+same-length-3 c = search needs
+
+same-length-4 : tie.Need-same-length-4
+same-length-4 c = search needs
+
+returns-2 : tie.Need-returns-2
+returns-2 c = search needs
 
 pub advance-spec : {M : Type 1} → statement M
 advance-spec =
     tie.close
     (tie.spec
-    slice-aggregate-search
-    search-requires
-    slice-aggregate-open-sums
-    slice-aggregate-open-sums-2
-    open-sums-requires
-    slice-aggregate-settle
-    settle-requires
-    slice-aggregate-relink
-    slice-aggregate-relink-2
-    relink-requires
+    get-requires
+    wide-requires
+    may-pass-requires
+    cut-run-requires
+    walk-run-requires
     same-length
     same-length-2
-    returns)
+    returns
+    same-length-3
+    same-length-4
+    returns-2)

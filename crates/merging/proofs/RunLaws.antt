@@ -1,0 +1,203 @@
+-- A run without link 1, walked along and relinked at link 0, stands behind the open list as a run that was cut and settled.
+-- Each of its records has level 1, so that its true p is its p and one sum, that of the links from 1 up: link 0 counts for no record.
+use mathlib.Core.Path.{_≡_, refl, sym, ap, ap₂, subst, _∙_}
+use mathlib.Core.Bool.{Bool, false}
+use mathlib.Core.List.{List, [], _∷_, _++_, map}
+use Prim.Native.Nat.{ℕ, zero, suc, _+_, _%_, _^_, _≤_, _<_}
+use native.Mathlib.Nat.{mod-add-mod, add-mod-mod}
+use native.Mathlib.Omega.{arith}
+use borrow.Author.Count.{below-more}
+use lib.ListN.{getD, set, replicate, getD-replicate}
+use Rattle.arena.specs.Arena.{word, level, pWord, forward, adjust}
+use Rattle.arena.specs.Lazy.{nextWith, lastWith, sumFrom}
+use Rattle.arena.specs.Chain.{Has, wrap, All, Chain, pUnder, after, trues}
+use Rattle.arena.proofs.SumLaws.{sum-agree}
+use Rattle.arena.proofs.Cases.{lt-or-ge}
+use Rattle.arena.proofs.Frames.{all-map, all-both, all-refl, after-in, after-out, next-here}
+use Rattle.arena.proofs.ListLaws.{last-none, last-inside, all-left}
+use Rattle.merging.specs.Cut.{front, CutAt, passes}
+use Rattle.merging.specs.Opening.{Opened}
+use Rattle.merging.specs.Open.{relinkOne, Relinkable}
+use Rattle.merging.specs.Settled.{headSums, lastSums, Ends, Above, Settled}
+use Rattle.merging.specs.Advance.{behind, Movable, Moved}
+use Rattle.merging.specs.Walk.{Walked}
+use Rattle.merging.proofs.SearchLaws.{front-in, none-in-front}
+use Rattle.merging.proofs.ClosingLaws.{ends-has}
+use Rattle.merging.proofs.RelinkWords.{Rewired, Ready, Replaced, rewired-none, rewired-turn, replaced-none, replaced-turn}
+use Rattle.merging.proofs.RelinkLaws.{ready, relinked}
+use Rattle.merging.proofs.Advancing.{linked, head-off, can-relink, moved}
+
+-- Sums that agree from link 1 up agree so after a record.
+after-agree : (a : List ℕ) (f g : ℕ → ℕ) (r : ℕ) → ((k : ℕ) → 1 ≤ k → k < 8 → g k ≡ f k) → (k : ℕ) → 1 ≤ k → k < 8 → after a g r k ≡ after a f r k
+after-agree a f g r e k low high =
+    lt-or-ge k (level a r) (λ p. after-in a g r k p ∙ sym (after-in a f r k p))
+    (λ p. after-out a g r k p ∙ e k low high ∙ sym (after-out a f r k p))
+
+-- Link 0 counts for no record: sums that agree from link 1 up give the same true p.
+pub lowest-free : (a : List ℕ) (f g : ℕ → ℕ) (rs : List ℕ) → All (λ x. 1 ≤ level a x) rs → ((k : ℕ) → 1 ≤ k → k < 8 → g k ≡ f k) → trues a g rs ≡ trues a f rs
+unfolding trues pUnder
+lowest-free a f g [] low e = refl
+lowest-free a f g (r ∷ rs) low e =
+    let some = low .0 in
+    ap₂ _∷_
+    (ap (λ (s : ℕ). (pWord a r + s) % 2 ^ 32) (sum-agree f g (level a r) 8 (λ k from high. e k (omega arith) high)))
+    (lowest-free a (after a f r) (after a g r) rs (low .1) (after-agree a f g r e))
+
+-- A record of level 1 leaves the sum from link 1 up as it was.
+sum-kept : (a : List ℕ) (f : ℕ → ℕ) (r : ℕ) → level a r ≤ 1 → sumFrom (after a f r) 1 8 ≡ sumFrom f 1 8
+sum-kept a f r low = sum-agree f (after a f r) 1 8 (λ k from high. after-out a f r k (omega arith))
+
+add-both : (c x y : ℕ) → x % 2 ^ 32 ≡ y % 2 ^ 32 → (c + x) % 2 ^ 32 ≡ (c + y) % 2 ^ 32
+add-both c x y e =
+    sym (add-mod-mod c x (2 ^ 32)) ∙ ap (λ (n : ℕ). (c + n) % 2 ^ 32) e ∙ add-mod-mod c y (2 ^ 32)
+
+-- What is to be added to p, where the sum t takes the place of s and q is added.
+made-up : (q d v s t : ℕ) → v ≡ (q + d) % 2 ^ 32 → (d + t) % 2 ^ 32 ≡ s % 2 ^ 32 → (v + t) % 2 ^ 32 ≡ (q + s) % 2 ^ 32
+made-up q d v s t is e =
+    let sum : q + d + t ≡ q + (d + t) = omega arith in
+    ap (λ (n : ℕ). (n + t) % 2 ^ 32) is ∙ mod-add-mod (q + d) (2 ^ 32) t ∙ ap (λ (n : ℕ). n % 2 ^ 32) sum
+    ∙ add-both q (d + t) s e
+
+raised-one : (p p' s t v q : ℕ) → p' ≡ (p + v) % 2 ^ 32 → (v + t) % 2 ^ 32 ≡ (q + s) % 2 ^ 32 → (p' + t) % 2 ^ 32 ≡ ((p + s) % 2 ^ 32 + q) % 2 ^ 32
+raised-one p p' s t v q up sums =
+    let one : p + v + t ≡ p + (v + t) = omega arith in
+    let other : p + (q + s) ≡ p + s + q = omega arith in
+    ap (λ (n : ℕ). (n + t) % 2 ^ 32) up ∙ mod-add-mod (p + v) (2 ^ 32) t ∙ ap (λ (n : ℕ). n % 2 ^ 32) one
+    ∙ add-both p (v + t) (q + s) sums
+    ∙ ap (λ (n : ℕ). n % 2 ^ 32) other
+    ∙ sym (mod-add-mod (p + s) (2 ^ 32) q)
+
+-- Records of level 1, each with its p raised by v, have every true p raised by q where v makes up for the other sums.
+low-raised : (a b : List ℕ) (f g : ℕ → ℕ) (v q : ℕ) → (v + sumFrom g 1 8) % 2 ^ 32 ≡ (q + sumFrom f 1 8) % 2 ^ 32 → (rs : List ℕ) → All (λ x. level a x ≡ 1) rs → All (λ x. level b x ≡ level a x) rs → All (λ x. pWord b x ≡ wrap (pWord a x) v) rs → trues b g rs ≡ map (λ (t : ℕ). wrap t q) (trues a f rs)
+unfolding trues pUnder wrap
+low-raised a b f g v q sums [] one same up = refl
+low-raised a b f g v q sums (r ∷ rs) one same up =
+    let one-a : level a r ≡ 1 = one .0 in
+    let one-b : level b r ≡ 1 = same .0 ∙ one .0 in
+    let s-a : sumFrom (after a f r) 1 8 ≡ sumFrom f 1 8 = sum-kept a f r (omega arith) in
+    let s-b : sumFrom (after b g r) 1 8 ≡ sumFrom g 1 8 = sum-kept b g r (omega arith) in
+    ap₂ _∷_
+    (ap (λ (l : ℕ). (pWord b r + sumFrom g l 8) % 2 ^ 32) one-b
+    ∙ raised-one (pWord a r) (pWord b r) (sumFrom f 1 8) (sumFrom g 1 8) v q (up .0) sums
+    ∙ ap (λ (l : ℕ). ((pWord a r + sumFrom f l 8) % 2 ^ 32 + q) % 2 ^ 32) (sym one-a))
+    (low-raised a b (after a f r) (after b g r) v q
+    (ap (λ (s : ℕ). (v + s) % 2 ^ 32) s-b ∙ sums ∙ ap (λ (s : ℕ). (q + s) % 2 ^ 32) (sym s-a)) rs (one .1) (same .1)
+    (up .1))
+
+chain-low : (a rs : List ℕ) → Chain a rs → All (λ r. 1 ≤ level a r) rs
+chain-low a [] c = tt
+chain-low a (r ∷ rs) c = (c .0 .low, chain-low a rs (c .1))
+
+-- The next record with link 1, as the code reads it, does not pass.
+pub second-stops : (a : List ℕ) (h key x w : ℕ) (more : Bool) → w ≡ word a h 4 → x ≡ w → more ≡ passes a x key → more ≡ false → passes a (forward a h 1) key ≡ false
+second-stops a h key x w more w-is x-is passing left =
+    ap (λ (y : ℕ). passes a y key) (sym (x-is ∙ w-is)) ∙ sym passing ∙ left
+
+module _ (a : List ℕ) (h hc key : ℕ) (cs : List ℕ) (r : ℕ) (rs cutc : List ℕ) (w : Movable a h hc key cs r rs cutc) where
+  abbrev fr : List ℕ
+  fr = front a key (r ∷ rs)
+
+  abbrev back : List ℕ
+  back = behind a key (r ∷ rs)
+
+  -- The open list's ends, with which the front is to be entered.
+  pub run-ends : Ends a h cutc
+  run-ends =
+      record {
+        head-has = w .list .linked .has;
+        long = w .ends .long;
+        last-has = ends-has a hc cs cutc (w .result) (w .ends);
+      }
+
+  module _ (stops : passes a (forward a h 1) key ≡ false) where
+    lows : All (λ x. level a x ≤ 1) fr
+    lows =
+        let top = w .list .linked .top in
+        let link : forward a h 1 ≡ nextWith a 1 (r ∷ rs) = w .list .linked .links .at 1 (omega arith) in
+        none-in-front a 1 key (r ∷ rs) (w .list .linked .chain) (w .list .falling)
+        (subst (λ (x : ℕ). passes a x key ≡ false) link stops)
+
+    ones : All (λ x. level a x ≡ 1) fr
+    ones =
+        all-both fr (λ x (p : level a x ≤ 1) (q : 1 ≤ level a x). omega arith) lows
+        (all-left (λ x. 1 ≤ level a x) fr back (chain-low a (fr ++ back) (linked a h hc key cs r rs cutc w .chain)))
+
+    -- The walk settles the front, and its last record and head are the cut.
+    module _ (q d v : ℕ) (above : Above a h cutc 1 8 d) (v-is : v ≡ (q + d) % 2 ^ 32) (b : List ℕ) (to : ℕ) (walked : Walked a b h key v (r ∷ rs) to) where
+      settled : Settled a b h q cutc fr
+      settled =
+          record {
+            length-kept = walked .length-kept;
+            shape = walked .shape;
+            outside = walked .outside;
+            values =
+                low-raised a b (headSums a h) (lastSums a cutc) v q
+                (made-up q d v (sumFrom (headSums a h) 1 8) (sumFrom (lastSums a cutc) 1 8) v-is above) fr ones
+                (all-refl fr (λ x. walked .shape x .level-kept)) (walked .raised);
+          }
+
+      abbrev cut : List ℕ
+      cut = to ∷ replicate 7 h
+
+      abbrev sums : List ℕ
+      sums = adjust a to 0 ∷ replicate 7 0
+
+      cut-at : (k : ℕ) → k < 8 → getD cut k 0 ≡ lastWith a k h fr
+      cut-at zero p = walked .last
+      cut-at (suc k) p =
+          getD-replicate 7 k h 0 (omega arith)
+          ∙ sym (last-none a (suc k) h fr (all-map fr (λ x (low : level a x ≤ 1). omega arith) lows))
+
+      is-cut : CutAt a h key (r ∷ rs) cut
+      is-cut = record { long = omega arith; at = cut-at }
+
+      first-in : 1 ≤ nextWith a 0 fr
+      first-in =
+          let member = w .list .linked .chain .0 in
+          let some = member .some in
+          subst (λ (l : List ℕ). 1 ≤ nextWith a 0 l) (sym (front-in a key r rs (w .first)))
+          (subst (λ (x : ℕ). 1 ≤ x) (sym (next-here a 0 r (front a key rs) (member .low))) some)
+
+      to-off : to ≡ h → ⊥
+      to-off =
+          subst (λ (x : ℕ). x ≡ h → ⊥) (sym (walked .last))
+          (last-inside a 0 (λ x. x ≡ h → ⊥) h fr first-in (head-off a h hc key cs r rs cutc w))
+
+      opened : Opened a h cut 1 sums
+      opened =
+          record {
+            few = omega arith;
+            long = omega arith;
+            records = below-more _ 0 (λ k p. absurd (omega arith)) to-off;
+            ends = λ p. refl;
+            sums = below-more _ 0 (λ k p. absurd (omega arith)) refl;
+          }
+
+      can : Relinkable b h hc cs fr back cut sums cutc 1
+      can = can-relink a h hc key cs r rs cutc w cut is-cut 1 sums opened q b settled
+
+      is-ready : Ready b h cut cutc 1
+      is-ready = ready b h hc cs fr back cut sums cutc 1 can
+
+      pub run-has : Has b h × Has b (getD cutc 0 0) × Has b to
+      run-has = (is-ready .head, is-ready .from 0 (omega arith), is-ready .to 0 (omega arith))
+
+      module _ (s : ℕ) (s-is : s ≡ word b to 11) (c : List ℕ) (relinks : c ≡ relinkOne b h (getD cutc 0 0) to 0 s) where
+        same-sum : s ≡ getD sums 0 0
+        same-sum = s-is ∙ walked .adjust-kept to 0 (omega arith)
+
+        rewired : Rewired b c h cut sums cutc 1
+        rewired =
+            subst (λ (l : List ℕ). Rewired b l h cut sums cutc 1)
+            (sym (relinks ∙ ap (relinkOne b h (getD cutc 0 0) to 0) same-sum))
+            (rewired-turn b b h cut sums cutc 1 0 (omega arith) is-ready (rewired-none b h cut sums cutc))
+
+        replaced : Replaced cut cutc (set cutc 0 to) 1
+        replaced =
+            let long = w .ends .long in
+            replaced-turn cut cutc cutc 0 (omega arith) (replaced-none cut cutc)
+
+        pub run-moved : Moved a c h hc q cs fr back (set cutc 0 to)
+        run-moved =
+            moved a h hc key cs r rs cutc w cut is-cut 1 sums opened q b settled c (set cutc 0 to)
+            (relinked b h hc cs fr back cut sums cutc 1 can c rewired (set cutc 0 to) replaced)

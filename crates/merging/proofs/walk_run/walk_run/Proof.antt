@@ -1,0 +1,74 @@
+-- `merging::walk_run::walk_run` meets its contract: the front stands behind the open list, raised, and the list keeps the rest.
+-- The walk settles the front, and `RunLaws` puts it together with the one link that is changed.
+use mathlib.Core.List.{_∷_}
+use borrow.Author.Needs.{needs}
+use Rattle.merging.proofs.RunLaws.{run-ends, run-has, run-moved}
+use Rattle.merging.proofs.walk_run.walk_run.Statement.{statement}
+use Rattle.merging.proofs.walk_run.walk_run.Tie as tie
+
+sums-above-requires : tie.Need-sums-above-requires
+sums-above-requires c κs =
+    let p = c .before .before .before .before .pre .0 in
+    (search needs, run-ends _ _ (p .0) _ (p .1) (p .2) (p .3) _ (p .4))
+
+wrapping-add-u32-requires : tie.Need-wrapping-add-u32-requires
+wrapping-add-u32-requires c κs = search needs
+
+walk-requires : tie.Need-walk-requires
+walk-requires c κs = search needs
+
+get-requires : tie.Need-get-requires
+get-requires c κs =
+    let at-walk = c .before .before .before in
+    let at-wrapping-add = at-walk .before .before in
+    let at-sums-above = at-wrapping-add .before in
+    let entry = at-sums-above .before .before .before .before .before in
+    let p = entry .pre .0 in
+    (run-has _ _ (p .0) _ (p .1) (p .2) (p .3) _ (p .4) (entry .pre .1) _ _ _ (at-sums-above .sums-above .ensures) (at-wrapping-add .wrapping-add-u32 .ensures) _ _ (at-walk .walk .ensures (p .2 ∷ p .3) (p .4 .list)) .2, search needs)
+
+slice-read-relink-one : tie.Need-slice-read-relink-one
+slice-read-relink-one c = search needs
+
+relink-one-requires : tie.Need-relink-one-requires
+relink-one-requires c κs =
+    let at-walk = c .before .before .before .before .before .before in
+    let at-wrapping-add = at-walk .before .before in
+    let at-sums-above = at-wrapping-add .before in
+    let entry = at-sums-above .before .before .before .before .before in
+    let p = entry .pre .0 in
+    let has = run-has _ _ (p .0) _ (p .1) (p .2) (p .3) _ (p .4) (entry .pre .1) _ _ _ (at-sums-above .sums-above .ensures) (at-wrapping-add .wrapping-add-u32 .ensures) _ _ (at-walk .walk .ensures (p .2 ∷ p .3) (p .4 .list)) in
+    (search needs, has .0, has .1, has .2)
+
+slice-write-cutc : tie.Need-slice-write-cutc
+slice-write-cutc c = search needs
+
+same-length : tie.Need-same-length
+same-length c = search needs
+
+same-length-2 : tie.Need-same-length-2
+same-length-2 c = search needs
+
+returns : tie.Need-returns
+returns c hc cs r rs w =
+    let at-relink-one = c .before .before in
+    let at-get = at-relink-one .before .before .before in
+    let at-walk = at-get .before .before .before .before in
+    let at-wrapping-add = at-walk .before .before in
+    let at-sums-above = at-wrapping-add .before in
+    let entry = at-sums-above .before .before .before .before .before in
+    run-moved _ _ hc _ cs r rs _ w (entry .pre .1) _ _ _ (at-sums-above .sums-above .ensures) (at-wrapping-add .wrapping-add-u32 .ensures) _ _ (at-walk .walk .ensures (r ∷ rs) (w .list)) _ (at-get .get .ensures) _ (at-relink-one .relink-one .ensures)
+
+pub walk-run-spec : {M : Type 1} → statement M
+walk-run-spec =
+    tie.close
+    (tie.spec
+    sums-above-requires
+    wrapping-add-u32-requires
+    walk-requires
+    get-requires
+    slice-read-relink-one
+    relink-one-requires
+    slice-write-cutc
+    same-length
+    same-length-2
+    returns)

@@ -1,0 +1,46 @@
+// A run of records that have link 0 alone: it goes to the result by one walk.
+ghost use mathlib.Core.Path.{_≡_};
+ghost use mathlib.Core.Bool.{false};
+ghost use mathlib.Core.List.{List, _∷_};
+ghost use Prim.Native.Nat.{ℕ};
+ghost use Rattle.arena.specs.Arena.{forward};
+ghost use Rattle.merging.specs.Cut.{front, passes, Searchable};
+ghost use Rattle.merging.specs.Walk.{Walked};
+ghost use Rattle.merging.specs.Advance.{behind, Movable, Moved};
+use crate::relink::relink_one;
+use crate::search::may_pass;
+use crate::settle::sums_above;
+use arena::words::get;
+use arena::words::raise;
+use arena::words::wide;
+
+// Raises by v the p of each record in front of a list, and finds the last of them, the head where there is none.
+fn walk(arena: &mut [u32], head: usize, key: u32, v: u32) -> usize
+    requires { ⌜ ((rs : List ℕ) × Searchable (now arena) head rs) ⌝ }
+    ensures { λ to. ⌜ ((rs : List ℕ) → Searchable (now (arena .entry)) head rs → Walked (now (arena .entry)) (now (arena .exit)) head key v rs to) ⌝ }
+{
+    let mut cur = head;
+    let mut next = wide(get(arena, head, 3));
+    let mut more = may_pass(arena, next, key);
+    while more {
+        cur = next;
+        raise(arena, cur, 2, v);
+        next = wide(get(arena, cur, 3));
+        more = may_pass(arena, next, key);
+    }
+    cur
+}
+
+// Moves the records in front of a list, none of which has link 1, behind an open list. Their sums from link 1 up are
+// those of the head before and those of the ends after, and link 0 counts for no true p, so that all are raised alike.
+pub fn walk_run(arena: &mut [u32], head: usize, key: u32, q: u32, cutc: &mut [usize])
+    requires { ⌜ ((hc : ℕ) × (cs : List ℕ) × (r : ℕ) × (rs : List ℕ) × Movable (now arena) head hc key cs r rs (now cutc)) ⌝ }
+    requires { ⌜ passes (now arena) (forward (now arena) head 1) key ≡ false ⌝ }
+    ensures { λ _. ⌜ ((hc : ℕ) (cs : List ℕ) (r : ℕ) (rs : List ℕ) → Movable (now (arena .entry)) head hc key cs r rs (now (cutc .entry)) → Moved (now (arena .entry)) (now (arena .exit)) head hc q cs (front (now (arena .entry)) key (r ∷ rs)) (behind (now (arena .entry)) key (r ∷ rs)) (now (cutc .exit))) ⌝ }
+{
+    let v = std::num::wrapping_add_u32(q, sums_above(arena, head, cutc, 1));
+    let to = walk(arena, head, key, v);
+    let sum = get(arena, to, 11);
+    relink_one(arena, head, cutc[0], to, 0, sum);
+    cutc[0] = to;
+}
