@@ -118,14 +118,6 @@ module _ (a : List ℕ) (k : ℕ) where
   pub not-last : (r : ℕ) (rs : List ℕ) → Away r rs → 1 ≤ nextWith a k rs → r ≡ lastWith a k r rs → ⊥
   not-last r rs away more e = last-inside (λ x. x ≡ r → ⊥) r rs more away (sym e)
 
-  -- Whether one of rs has link k, told by the last record with it.
-  pub some-with : (h : ℕ) (rs : List ℕ) → All (λ r. 1 ≤ r) rs → (lastWith a k h rs ≡ h → ⊥) → 1 ≤ nextWith a k rs
-  some-with h rs some ne = some-or-none rs some (λ one. one) (λ none. absurd (ne (last-none h rs none)))
-
-  pub none-has : (h : ℕ) (rs : List ℕ) → All (λ r. 1 ≤ r) rs → Away h rs → lastWith a k h rs ≡ h → All (λ x. level a x ≤ k) rs
-  none-has h rs some away e =
-      some-or-none rs some (λ one. absurd (last-inside (λ x. x ≡ h → ⊥) h rs one away e)) (λ none. none)
-
   -- The sum of link k that leaves rs is the adjust of the last record with it.
   pub leaving-last : (acc : ℕ → ℕ) (h : ℕ) (rs : List ℕ) → acc k ≡ adjust a h k → leaving a acc rs k ≡ adjust a (lastWith a k h rs) k
   unfolding leaving lastWith after

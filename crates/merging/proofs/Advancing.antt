@@ -4,16 +4,15 @@ use mathlib.Core.Path.{_≡_, refl, sym, ap, subst, _∙_}
 use mathlib.Core.List.{List, [], _∷_, _++_, map}
 use Prim.Native.Nat.{ℕ, _+_, _-_, _≤_, _<_}
 use native.Mathlib.Omega.{arith}
-use lib.ListN.{length, getD, length-append}
+use lib.ListN.{length, length-append}
 use borrow.Author.Tests.{le-leb, lt-leb}
 use Rattle.arena.specs.Arena.{level, mWord, adjust}
-use Rattle.arena.specs.Chain.{Has, wrap, All, Away, Chain, Linked, pUnder, after, trues, leaving, Same, Shape, Value}
+use Rattle.arena.specs.Chain.{wrap, All, Away, Linked, pUnder, after, trues, leaving, Same, Shape, Value}
 use Rattle.arena.proofs.Cases.{lt-or-ge}
-use Rattle.arena.proofs.ListLaws.{all-left, all-right, last-none, last-all, some-with, none-has, leaving-last}
+use Rattle.arena.proofs.ListLaws.{all-left, all-right, last-none, last-all, last-inside, leaving-last}
 use Rattle.arena.proofs.PutLaws.{same-trans}
 use Rattle.arena.proofs.Frames.{all-map, all-refl, all-both, same-value, next-frame, linked-frame, trues-frame, last-frame}
-use Rattle.merging.specs.Cut.{front, CutAt}
-use Rattle.merging.specs.Opening.{Readable, Opened}
+use Rattle.merging.specs.Cut.{front, LinkCount, CutAt}
 use Rattle.merging.specs.Open.{Relinkable, Relinked}
 use Rattle.merging.specs.Settled.{lastSums, Ready, Settled}
 use Rattle.merging.specs.Advance.{behind, Movable, Moved}
@@ -53,14 +52,6 @@ unfolding trues leaving
 trues-append a f [] ys = refl
 trues-append a f (x ∷ xs) ys = ap (λ (l : List ℕ). pUnder a f x ∷ l) (trues-append a (after a f x) xs ys)
 
-chain-some : (a rs : List ℕ) → Chain a rs → All (λ r. 1 ≤ r) rs
-chain-some a [] c = tt
-chain-some a (r ∷ rs) c = (c .0 .some, chain-some a rs (c .1))
-
-chain-high : (a rs : List ℕ) → Chain a rs → All (λ r. level a r ≤ 8) rs
-chain-high a [] c = tt
-chain-high a (r ∷ rs) c = (c .0 .high, chain-high a rs (c .1))
-
 -- The list as it is cut.
 module _ (a : List ℕ) (h hc key : ℕ) (cs : List ℕ) (r : ℕ) (rs cutc : List ℕ) (w : Movable a h hc key cs r rs cutc) where
   abbrev fr : List ℕ
@@ -81,180 +72,143 @@ module _ (a : List ℕ) (h hc key : ℕ) (cs : List ℕ) (r : ℕ) (rs cutc : Li
   hc-apart : Away hc fr
   hc-apart = all-front (λ x. x ≡ hc → ⊥) a key (r ∷ rs) (w .result-away)
 
-  pub fr-some : All (λ x. 1 ≤ x) fr
-  fr-some = all-left (λ x. 1 ≤ x) fr back (chain-some a (fr ++ back) (linked .chain))
-
-  fr-high : All (λ x. level a x ≤ 8) fr
-  fr-high = all-left (λ x. level a x ≤ 8) fr back (chain-high a (fr ++ back) (linked .chain))
-
-  pub head-off : Away h fr
+  head-off : Away h fr
   head-off = all-left (λ x. x ≡ h → ⊥) fr back (linked .away)
 
-  module _ (cut : List ℕ) (c : CutAt a h key (r ∷ rs) cut) where
-    pub cut-readable : Readable a cut
-    cut-readable =
+  module _ (n : ℕ) (l : LinkCount a key (r ∷ rs) n) (cut sums : List ℕ) (c : CutAt a h key n (r ∷ rs) cut sums) where
+    pub can-settle : Ready a h n cut cutc fr back
+    can-settle =
+        let some = l .some in
         record {
+          linked = linked;
+          some = some;
+          most = l .few;
+          lower = l .lower;
           long = c .long;
-          has = λ k e. subst (λ (x : ℕ). Has a x) (sym (c .at k e)) (last-has a k h fr back (linked .has) (linked .chain));
+          cut-at = c .at (n - 1) (omega arith);
+          cut-in = λ e.
+              last-inside a (n - 1) (λ x. x ≡ h → ⊥) h fr (l .with-link (n - 1) (omega arith)) head-off
+              (sym (c .at (n - 1) (omega arith)) ∙ e);
+          ends =
+              record {
+                head-has = linked .has;
+                long = w .ends .long;
+                last-has = ends-has a hc cs cutc (w .result) (w .ends);
+              };
+          apart = λ k e.
+              subst (λ (x : ℕ). Away x fr) (sym (w .ends .at k e))
+              (last-all a k (λ x. Away x fr) hc cs
+              hc-apart cs-apart);
+          few = subst (λ (l : List ℕ). length l ≤ 512) whole (w .list .few);
         }
 
-    module _ (n : ℕ) (sums : List ℕ) (o : Opened a h cut n sums) where
-      -- The first record is in front, so that the cut of link 0 is not the head.
-      first-low : All (λ x. level a x ≤ 0) fr → ⊥
-      first-low low =
-          let here : fr ≡ r ∷ front a key rs = front-in a key r rs (w .first) in
-          let first = subst (λ (l : List ℕ). All (λ x. level a x ≤ 0) l) here low in
-          let some = w .list .linked .chain .0 .low in
-          let none = first .0 in
-          omega arith
+    -- After the front was settled, in the arena b.
+    module _ (q : ℕ) (b : List ℕ) (s : Settled a b h q cutc fr) where
+      levels : (rs : List ℕ) → All (λ x. level b x ≡ level a x) rs
+      levels l = all-refl l (λ x. s .shape x .level-kept)
 
-      at-least : 1 ≤ n
-      at-least =
-          lt-or-ge 0 n (λ h. h)
-          (λ e.
-          let zero-n : n ≡ 0 = omega arith in
-          let is-head : getD cut 0 0 ≡ h = subst (λ (i : ℕ). getD cut i 0 ≡ h) zero-n (o .ends (omega arith)) in
-          absurd (first-low (none-has a 0 h fr fr-some head-off (sym (c .at 0 (omega arith)) ∙ is-head))))
+      shapes : (rs : List ℕ) → All (Shape a b) rs
+      shapes l = all-refl l (λ x. s .shape x)
 
-      lower : All (λ x. level a x ≤ n) fr
-      lower =
-          lt-or-ge n 8
-          (λ e. none-has a n h fr fr-some head-off (sym (c .at n e) ∙ o .ends e))
-          (λ e. all-map fr (λ x y. omega arith) fr-high)
-
-      pub can-settle : Ready a h n cut cutc fr back
-      can-settle =
-          let some = at-least in
-          let few = o .few in
+      pub can-relink : Relinkable b h hc cs fr back cut sums cutc n
+      can-relink =
+          let few = l .few in
+          let cut-long = c .long in
+          let sums-long = c .sums-long in
           record {
-            linked = linked;
-            some = some;
-            most = few;
-            lower = lower;
-            long = c .long;
-            cut-at = c .at (n - 1) (omega arith);
-            cut-in = o .records (n - 1) (omega arith);
-            ends =
-                record {
-                  head-has = linked .has;
-                  long = w .ends .long;
-                  last-has = ends-has a hc cs cutc (w .result) (w .ends);
-                };
-            apart = λ k e.
-                subst (λ (x : ℕ). Away x fr) (sym (w .ends .at k e))
-                (last-all a k (λ x. Away x fr) hc cs
-                hc-apart cs-apart);
-            few = subst (λ (l : List ℕ). length l ≤ 512) whole (w .list .few);
+            list = linked-frame a b h (fr ++ back) (s .length-kept) (s .shape h) (shapes (fr ++ back)) linked;
+            result = open-frame a b hc cs (s .length-kept) (s .shape hc) (shapes cs) (w .result);
+            ends = ends-frame a b hc cs cutc (levels cs) (w .ends);
+            heads = w .heads;
+            head-away = w .head-away;
+            result-away = subst (λ (l : List ℕ). Away hc l) whole (w .result-away);
+            apart = all-map cs (λ x y. subst (λ (l : List ℕ). Away x l) whole y) (w .apart);
+            high = few;
+            with-link = λ k e.
+                subst (λ (x : ℕ). 1 ≤ x) (sym (next-frame a b k fr (levels fr))) (l .with-link k e);
+            lower = all-map fr (λ x y. let same = s .shape x .level-kept in omega arith) (l .lower);
+            cut-long = omega arith;
+            cut-at = λ k e. c .at k e ∙ sym (last-frame a b k h fr (levels fr));
+            sums-long = omega arith;
           }
 
-      -- After the front was settled, in the arena b.
-      module _ (q : ℕ) (b : List ℕ) (s : Settled a b h q cutc fr) where
-        levels : (rs : List ℕ) → All (λ x. level b x ≡ level a x) rs
-        levels l = all-refl l (λ x. s .shape x .level-kept)
+      -- After it was relinked as well, in the arena d.
+      module _ (d cutd : List ℕ) (e : Relinked b d h hc cs fr back cut sums cutc cutd n) where
+        can : Relinkable b h hc cs fr back cut sums cutc n
+        can = can-relink
 
-        shapes : (rs : List ℕ) → All (Shape a b) rs
-        shapes l = all-refl l (λ x. s .shape x)
-
-        pub can-relink : Relinkable b h hc cs fr back cut sums cutc n
-        can-relink =
-            let few = o .few in
-            let cut-long = c .long in
-            let sums-long = o .long in
+        value : (x : ℕ) → (x ≡ h → ⊥) → Away x fr → Value a d x
+        value x off away =
+            let first = same-value a b x (s .outside x away) in
+            let second = relinked-value b d h hc cs fr back cut sums cutc cutd n can e x off in
             record {
-              list = linked-frame a b h (fr ++ back) (s .length-kept) (s .shape h) (shapes (fr ++ back)) linked;
-              result = open-frame a b hc cs (s .length-kept) (s .shape hc) (shapes cs) (w .result);
-              ends = ends-frame a b hc cs cutc (levels cs) (w .ends);
-              heads = w .heads;
-              head-away = w .head-away;
-              result-away = subst (λ (l : List ℕ). Away hc l) whole (w .result-away);
-              apart = all-map cs (λ x y. subst (λ (l : List ℕ). Away x l) whole y) (w .apart);
-              high = o .few;
-              with-link = λ k e.
-                  subst (λ (x : ℕ). 1 ≤ x) (sym (next-frame a b k fr (levels fr)))
-                  (some-with a k h fr fr-some (λ f. o .records k e (c .at k (omega arith) ∙ f)));
-              lower = all-map fr (λ x y. let same = s .shape x .level-kept in omega arith) lower;
-              cut-long = omega arith;
-              cut-at = λ k e. c .at k (omega arith) ∙ sym (last-frame a b k h fr (levels fr));
-              sums-long = omega arith;
+              level-kept = second .level-kept ∙ first .level-kept;
+              p-kept = second .p-kept ∙ first .p-kept;
+              adjust-kept = λ k f. second .adjust-kept k f ∙ first .adjust-kept k f;
             }
 
-        -- After it was relinked as well, in the arena d.
-        module _ (d cutd : List ℕ) (e : Relinked b d h hc cs fr back cut sums cutc cutd n) where
-          can : Relinkable b h hc cs fr back cut sums cutc n
-          can = can-relink
+        values-of : (xs : List ℕ) → Away h xs → All (λ x. Away x fr) xs → All (Value a d) xs
+        values-of xs off away = all-both xs value off away
 
-          value : (x : ℕ) → (x ≡ h → ⊥) → Away x fr → Value a d x
-          value x off away =
-              let first = same-value a b x (s .outside x away) in
-              let second = relinked-value b d h hc cs fr back cut sums cutc cutd n can e x off in
-              record {
-                level-kept = second .level-kept ∙ first .level-kept;
-                p-kept = second .p-kept ∙ first .p-kept;
-                adjust-kept = λ k f. second .adjust-kept k f ∙ first .adjust-kept k f;
-              }
+        hc-sums : (k : ℕ) → k < 8 → adjust d hc k ≡ adjust a hc k
+        hc-sums k f = value hc (λ x. w .heads (sym x)) hc-apart .adjust-kept k f
 
-          values-of : (xs : List ℕ) → Away h xs → All (λ x. Away x fr) xs → All (Value a d) xs
-          values-of xs off away = all-both xs value off away
+        d-levels : (xs : List ℕ) → All (λ x. level d x ≡ level b x) xs
+        d-levels xs = all-refl xs (e .level-kept)
 
-          hc-sums : (k : ℕ) → k < 8 → adjust d hc k ≡ adjust a hc k
-          hc-sums k f = value hc (λ x. w .heads (sym x)) hc-apart .adjust-kept k f
+        -- What leaves the open list is what the front was settled for.
+        leaving-is : (k : ℕ) → k < 8 → leaving d (adjust d hc) cs k ≡ lastSums a cutc k
+        leaving-is k f =
+            let last = last-frame b d k hc cs (d-levels cs) ∙ last-frame a b k hc cs (levels cs) in
+            leaving-last d k (adjust d hc) hc cs refl ∙ ap (λ (x : ℕ). adjust d x k) (last ∙ sym (w .ends .at k f))
+            ∙ subst (λ (x : ℕ). adjust d x k ≡ adjust a x k) (sym (w .ends .at k f))
+            (last-all a k (λ x. adjust d x k ≡ adjust a x k) hc cs (hc-sums k f)
+            (all-map cs (λ x v. v .adjust-kept k f) (values-of cs (w .head-away) cs-apart)))
 
-          d-levels : (xs : List ℕ) → All (λ x. level d x ≡ level b x) xs
-          d-levels xs = all-refl xs (e .level-kept)
+        fr-values : All (Value b d) fr
+        fr-values = all-map fr (relinked-value b d h hc cs fr back cut sums cutc cutd n can e) head-off
 
-          -- What leaves the open list is what the front was settled for.
-          leaving-is : (k : ℕ) → k < 8 → leaving d (adjust d hc) cs k ≡ lastSums a cutc k
-          leaving-is k f =
-              let last = last-frame b d k hc cs (d-levels cs) ∙ last-frame a b k hc cs (levels cs) in
-              leaving-last d k (adjust d hc) hc cs refl ∙ ap (λ (x : ℕ). adjust d x k) (last ∙ sym (w .ends .at k f))
-              ∙ subst (λ (x : ℕ). adjust d x k ≡ adjust a x k) (sym (w .ends .at k f))
-              (last-all a k (λ x. adjust d x k ≡ adjust a x k) hc cs (hc-sums k f)
-              (all-map cs (λ x v. v .adjust-kept k f) (values-of cs (w .head-away) cs-apart)))
+        result-values : trues d (adjust d hc) (cs ++ fr) ≡ trues a (adjust a hc) cs ++ map (λ (t : ℕ). wrap t q) (trues a (adjust a h) fr)
+        result-values =
+            trues-append d (adjust d hc) cs fr
+            ∙ ap (λ (l : List ℕ). l ++ trues d (leaving d (adjust d hc) cs) fr)
+            (trues-frame a d (adjust a hc) (adjust d hc) cs hc-sums (values-of cs (w .head-away) cs-apart))
+            ∙ ap (λ (l : List ℕ). trues a (adjust a hc) cs ++ l)
+            (trues-frame b d (lastSums a cutc) (leaving d (adjust d hc) cs) fr leaving-is fr-values ∙ s .values)
 
-          fr-values : All (Value b d) fr
-          fr-values = all-map fr (relinked-value b d h hc cs fr back cut sums cutc cutd n can e) head-off
+        -- The head takes what left the front.
+        head-is : (k : ℕ) → k < 8 → adjust d h k ≡ leaving a (adjust a h) fr k
+        head-is k f =
+            lt-or-ge k n
+            (λ less.
+            e .adjust-head k less ∙ c .sums-at k less
+            ∙ sym (leaving-last a k (adjust a h) h fr refl))
+            (λ more.
+            e .adjust-above k more f ∙ s .outside h (away-head) .at (11 + k) (omega arith)
+            ∙ ap (λ (x : ℕ). adjust a x k) (sym (last-none a k h fr (all-map fr (λ x y. omega arith) (l .lower))))
+            ∙ sym (leaving-last a k (adjust a h) h fr refl))
+          where
+            away-head : Away h fr
+            away-head = head-off
 
-          result-values : trues d (adjust d hc) (cs ++ fr) ≡ trues a (adjust a hc) cs ++ map (λ (t : ℕ). wrap t q) (trues a (adjust a h) fr)
-          result-values =
-              trues-append d (adjust d hc) cs fr
-              ∙ ap (λ (l : List ℕ). l ++ trues d (leaving d (adjust d hc) cs) fr)
-              (trues-frame a d (adjust a hc) (adjust d hc) cs hc-sums (values-of cs (w .head-away) cs-apart))
-              ∙ ap (λ (l : List ℕ). trues a (adjust a hc) cs ++ l)
-              (trues-frame b d (lastSums a cutc) (leaving d (adjust d hc) cs) fr leaving-is fr-values ∙ s .values)
+        back-values : All (Value a d) back
+        back-values = values-of back (all-right (λ x. x ≡ h → ⊥) fr back (linked .away)) (apart-from a fr back (linked .chain))
 
-          -- The head takes what left the front.
-          head-is : (k : ℕ) → k < 8 → adjust d h k ≡ leaving a (adjust a h) fr k
-          head-is k f =
-              lt-or-ge k n
-              (λ less.
-              e .adjust-head k less ∙ o .sums k less ∙ ap (λ (x : ℕ). adjust a x k) (c .at k f)
-              ∙ sym (leaving-last a k (adjust a h) h fr refl))
-              (λ more.
-              e .adjust-above k more f ∙ s .outside h (away-head) .at (11 + k) (omega arith)
-              ∙ ap (λ (x : ℕ). adjust a x k) (sym (last-none a k h fr (all-map fr (λ x y. omega arith) lower)))
-              ∙ sym (leaving-last a k (adjust a h) h fr refl))
-            where
-              away-head : Away h fr
-              away-head = head-off
+        outside : (x : ℕ) → (h ≡ x → ⊥) → (hc ≡ x → ⊥) → Away x cs → Away x fr → Same a d x
+        outside x off off-result off-cs off-fr =
+            same-trans a b d x (s .outside x off-fr) (relinked-same b d h hc cs fr back cut sums cutc cutd n can e x off off-result off-cs)
 
-          back-values : All (Value a d) back
-          back-values = values-of back (all-right (λ x. x ≡ h → ⊥) fr back (linked .away)) (apart-from a fr back (linked .chain))
-
-          outside : (x : ℕ) → (h ≡ x → ⊥) → (hc ≡ x → ⊥) → Away x cs → Away x fr → Same a d x
-          outside x off off-result off-cs off-fr =
-              same-trans a b d x (s .outside x off-fr) (relinked-same b d h hc cs fr back cut sums cutc cutd n can e x off off-result off-cs)
-
-          pub moved : Moved a d h hc q cs fr back cutd
-          moved =
-              record {
-                length-kept = e .length-kept ∙ s .length-kept;
-                list = e .list;
-                result = e .result;
-                ends = e .ends;
-                level-kept = λ x. e .level-kept x ∙ s .shape x .level-kept;
-                m-kept = λ x. e .m-kept x ∙ s .shape x .m-kept;
-                values = result-values;
-                rest-values = trues-frame a d (leaving a (adjust a h) fr) (adjust d h) back head-is back-values;
-                result-sums = hc-sums;
-                outside = outside;
-              }
+        pub moved : Moved a d h hc q cs fr back cutd
+        moved =
+            record {
+              length-kept = e .length-kept ∙ s .length-kept;
+              list = e .list;
+              result = e .result;
+              ends = e .ends;
+              level-kept = λ x. e .level-kept x ∙ s .shape x .level-kept;
+              m-kept = λ x. e .m-kept x ∙ s .shape x .m-kept;
+              values = result-values;
+              rest-values = trues-frame a d (leaving a (adjust a h) fr) (adjust d h) back head-is back-values;
+              result-sums = hc-sums;
+              outside = outside;
+            }

@@ -1,9 +1,9 @@
 pub mod Adding
 pub mod SearchLaws
+pub mod CountLaws
 pub mod LiftLaws
 pub mod Raising
 pub mod DropLaws
-pub mod OpeningLaws
 pub mod SettleLaws
 pub mod FrontLaws
 pub mod Settling

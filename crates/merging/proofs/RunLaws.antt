@@ -3,20 +3,19 @@
 use mathlib.Core.Path.{_≡_, refl, sym, ap, ap₂, subst, _∙_}
 use mathlib.Core.Bool.{Bool, false}
 use mathlib.Core.List.{List, [], _∷_, _++_, map}
-use Prim.Native.Nat.{ℕ, zero, suc, _+_, _%_, _^_, _≤_, _<_}
+use Prim.Native.Nat.{ℕ, _+_, _%_, _^_, _≤_, _<_}
 use native.Mathlib.Nat.{mod-add-mod, add-mod-mod}
 use native.Mathlib.Omega.{arith}
 use borrow.Author.Count.{below-more}
-use lib.ListN.{getD, set, replicate, getD-replicate}
+use lib.ListN.{getD, set, replicate}
 use Rattle.arena.specs.Arena.{word, level, pWord, forward, adjust}
-use Rattle.arena.specs.Lazy.{nextWith, lastWith, sumFrom}
+use Rattle.arena.specs.Lazy.{nextWith, sumFrom}
 use Rattle.arena.specs.Chain.{Has, wrap, All, Chain, pUnder, after, trues}
 use Rattle.arena.proofs.SumLaws.{sum-agree}
 use Rattle.arena.proofs.Cases.{lt-or-ge}
-use Rattle.arena.proofs.Frames.{all-map, all-both, all-refl, after-in, after-out, next-here}
-use Rattle.arena.proofs.ListLaws.{last-none, last-inside, all-left}
-use Rattle.merging.specs.Cut.{front, CutAt, passes}
-use Rattle.merging.specs.Opening.{Opened}
+use Rattle.arena.proofs.Frames.{all-both, all-refl, after-in, after-out, next-here}
+use Rattle.arena.proofs.ListLaws.{all-left}
+use Rattle.merging.specs.Cut.{front, LinkCount, CutAt, passes}
 use Rattle.merging.specs.Open.{relinkOne, Relinkable}
 use Rattle.merging.specs.Settled.{headSums, lastSums, Ends, Above, Settled}
 use Rattle.merging.specs.Advance.{behind, Movable, Moved}
@@ -25,7 +24,7 @@ use Rattle.merging.proofs.SearchLaws.{front-in, none-in-front}
 use Rattle.merging.proofs.ClosingLaws.{ends-has}
 use Rattle.merging.proofs.RelinkWords.{Rewired, Ready, Replaced, rewired-none, rewired-turn, replaced-none, replaced-turn}
 use Rattle.merging.proofs.RelinkLaws.{ready, relinked}
-use Rattle.merging.proofs.Advancing.{linked, head-off, can-relink, moved}
+use Rattle.merging.proofs.Advancing.{linked, can-relink, moved}
 
 -- Sums that agree from link 1 up agree so after a record.
 after-agree : (a : List ℕ) (f g : ℕ → ℕ) (r : ℕ) → ((k : ℕ) → 1 ≤ k → k < 8 → g k ≡ f k) → (k : ℕ) → 1 ≤ k → k < 8 → after a g r k ≡ after a f r k
@@ -88,10 +87,10 @@ chain-low : (a rs : List ℕ) → Chain a rs → All (λ r. 1 ≤ level a r) rs
 chain-low a [] c = tt
 chain-low a (r ∷ rs) c = (c .0 .low, chain-low a rs (c .1))
 
--- The next record with link 1, as the code reads it, does not pass.
-pub second-stops : (a : List ℕ) (h key x w : ℕ) (more : Bool) → w ≡ word a h 4 → x ≡ w → more ≡ passes a x key → more ≡ false → passes a (forward a h 1) key ≡ false
-second-stops a h key x w more w-is x-is passing left =
-    ap (λ (y : ℕ). passes a y key) (sym (x-is ∙ w-is)) ∙ sym passing ∙ left
+-- Whether the next record with link 1 passes, as the code finds it.
+pub second-passes : (a : List ℕ) (h key x w : ℕ) (more b : Bool) → w ≡ word a h 4 → x ≡ w → more ≡ passes a x key → more ≡ b → passes a (forward a h 1) key ≡ b
+second-passes a h key x w more b w-is x-is passing found =
+    ap (λ (y : ℕ). passes a y key) (sym (x-is ∙ w-is)) ∙ sym passing ∙ found
 
 module _ (a : List ℕ) (h hc key : ℕ) (cs : List ℕ) (r : ℕ) (rs cutc : List ℕ) (w : Movable a h hc key cs r rs cutc) where
   abbrev fr : List ℕ
@@ -142,15 +141,6 @@ module _ (a : List ℕ) (h hc key : ℕ) (cs : List ℕ) (r : ℕ) (rs cutc : Li
       abbrev sums : List ℕ
       sums = adjust a to 0 ∷ replicate 7 0
 
-      cut-at : (k : ℕ) → k < 8 → getD cut k 0 ≡ lastWith a k h fr
-      cut-at zero p = walked .last
-      cut-at (suc k) p =
-          getD-replicate 7 k h 0 (omega arith)
-          ∙ sym (last-none a (suc k) h fr (all-map fr (λ x (low : level a x ≤ 1). omega arith) lows))
-
-      is-cut : CutAt a h key (r ∷ rs) cut
-      is-cut = record { long = omega arith; at = cut-at }
-
       first-in : 1 ≤ nextWith a 0 fr
       first-in =
           let member = w .list .linked .chain .0 in
@@ -158,23 +148,27 @@ module _ (a : List ℕ) (h hc key : ℕ) (cs : List ℕ) (r : ℕ) (rs cutc : Li
           subst (λ (l : List ℕ). 1 ≤ nextWith a 0 l) (sym (front-in a key r rs (w .first)))
           (subst (λ (x : ℕ). 1 ≤ x) (sym (next-here a 0 r (front a key rs) (member .low))) some)
 
-      to-off : to ≡ h → ⊥
-      to-off =
-          subst (λ (x : ℕ). x ≡ h → ⊥) (sym (walked .last))
-          (last-inside a 0 (λ x. x ≡ h → ⊥) h fr first-in (head-off a h hc key cs r rs cutc w))
-
-      opened : Opened a h cut 1 sums
-      opened =
+      one-link : LinkCount a key (r ∷ rs) 1
+      one-link =
           record {
+            some = omega arith;
             few = omega arith;
+            with-link = below-more _ 0 (λ k p. absurd (omega arith)) first-in;
+            lower = lows;
+          }
+
+      is-cut : CutAt a h key 1 (r ∷ rs) cut sums
+      is-cut =
+          record {
             long = omega arith;
-            records = below-more _ 0 (λ k p. absurd (omega arith)) to-off;
-            ends = λ p. refl;
-            sums = below-more _ 0 (λ k p. absurd (omega arith)) refl;
+            sums-long = omega arith;
+            at = below-more _ 0 (λ k p. absurd (omega arith)) (walked .last);
+            sums-at =
+                below-more _ 0 (λ k p. absurd (omega arith)) (ap (λ (x : ℕ). adjust a x 0) (walked .last));
           }
 
       can : Relinkable b h hc cs fr back cut sums cutc 1
-      can = can-relink a h hc key cs r rs cutc w cut is-cut 1 sums opened q b settled
+      can = can-relink a h hc key cs r rs cutc w 1 one-link cut sums is-cut q b settled
 
       is-ready : Ready b h cut cutc 1
       is-ready = ready b h hc cs fr back cut sums cutc 1 can
@@ -199,5 +193,5 @@ module _ (a : List ℕ) (h hc key : ℕ) (cs : List ℕ) (r : ℕ) (rs cutc : Li
 
         pub run-moved : Moved a c h hc q cs fr back (set cutc 0 to)
         run-moved =
-            moved a h hc key cs r rs cutc w cut is-cut 1 sums opened q b settled c (set cutc 0 to)
+            moved a h hc key cs r rs cutc w 1 one-link cut sums is-cut q b settled c (set cutc 0 to)
             (relinked b h hc cs fr back cut sums cutc 1 can c rewired (set cutc 0 to) replaced)

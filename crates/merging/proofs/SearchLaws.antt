@@ -9,7 +9,7 @@ use lib.ListN.{length, getD, set, length-set, length-append}
 use lib.Seq.{getD-set-same, getD-set-other}
 use lib.Dec.{leb}
 use borrow.Author.Tests.{leb-true, leb-false, le-leb, lt-leb}
-use Rattle.arena.specs.Arena.{word, level, mWord, forward}
+use Rattle.arena.specs.Arena.{word, level, mWord, forward, adjust}
 use Rattle.arena.specs.Lazy.{nextWith, lastWith}
 use Rattle.arena.specs.Chain.{Has, All, Links, Chain}
 use Rattle.arena.proofs.ListLaws.{last-here, last-none, last-append, Jump, jump, all-right, chain-right}
@@ -72,12 +72,13 @@ none-in-front a k key (r ∷ rs) c f e =
     by true h n = (h, n)
     by false h n = tt
 
--- The state of the search: the record cur, before the records post, and the links below i still to be cut.
-pub record Going (a : List ℕ) (h key : ℕ) (cut₀ cut : List ℕ) (cur i : ℕ) : Type 0 where
+-- The state of the search: the record cur, before the records post, and the links below i still to be cut, of n.
+pub record Going (a : List ℕ) (h key n : ℕ) (cut₀ sums₀ cut sums : List ℕ) (cur i : ℕ) : Type 0 where
   pub rs : List ℕ
   pub list : Searchable a h rs
   pub post : List ℕ
-  pub inside : i ≤ 8
+  pub all : n ≤ 8
+  pub inside : i ≤ n
   pub high : i ≤ level a cur
   pub has : Has a cur
   pub links : Links a cur post
@@ -85,18 +86,23 @@ pub record Going (a : List ℕ) (h key : ℕ) (cut₀ cut : List ℕ) (cur i : �
   pub falling : Falling a post
   pub few : length post ≤ 512
   pub same : (k : ℕ) → k < i → lastWith a k h (front a key rs) ≡ lastWith a k cur (front a key post)
-  pub done : (k : ℕ) → i ≤ k → k < 8 → getD cut k 0 ≡ lastWith a k h (front a key rs)
+  pub done : (k : ℕ) → i ≤ k → k < n → getD cut k 0 ≡ lastWith a k h (front a key rs)
+  pub sums-done : (k : ℕ) → i ≤ k → k < n → getD sums k 0 ≡ adjust a (lastWith a k h (front a key rs)) k
   pub long : 8 ≤ length cut
   pub kept : length cut ≡ length cut₀
+  pub sums-long : 8 ≤ length sums
+  pub sums-kept : length sums ≡ length sums₀
 
-pub going-start : (a : List ℕ) (h key : ℕ) (cut : List ℕ) → (rs : List ℕ) × Searchable a h rs → 8 ≤ length cut → Going a h key cut cut h 8
-going-start a h key cut r l =
+pub going-start : (a : List ℕ) (h key n : ℕ) (cut sums : List ℕ) → (rs : List ℕ) × Searchable a h rs → (n ≤ 8) × (8 ≤ length cut) × (8 ≤ length sums) → Going a h key n cut sums cut sums h n
+going-start a h key n cut sums r l =
     let s = r .1 in
     let top = s .linked .top in
+    let few = l .0 in
     record {
       rs = r .0;
       list = s;
       post = r .0;
+      all = l .0;
       inside = omega arith;
       high = omega arith;
       has = s .linked .has;
@@ -106,12 +112,15 @@ going-start a h key cut r l =
       few = s .few;
       same = λ k e. refl;
       done = λ k e f. absurd (omega arith);
-      long = l;
+      sums-done = λ k e f. absurd (omega arith);
+      long = l .1;
       kept = refl;
+      sums-long = l .2;
+      sums-kept = refl;
     }
 
 -- One turn at the link i - 1, whose forward is nxt.
-module _ (a : List ℕ) (h key : ℕ) (cut₀ cut : List ℕ) (cur i nxt : ℕ) (g : Going a h key cut₀ cut cur i) (more : 0 < i) (e : nxt ≡ word a cur (3 + (i - 1))) where
+module _ (a : List ℕ) (h key n : ℕ) (cut₀ sums₀ cut sums : List ℕ) (cur i nxt : ℕ) (g : Going a h key n cut₀ sums₀ cut sums cur i) (more : 0 < i) (e : nxt ≡ word a cur (3 + (i - 1))) where
   is-next : nxt ≡ nextWith a (i - 1) (g .post)
   is-next = e ∙ g .links .at (i - 1) (let x = g .high in omega arith)
 
@@ -128,7 +137,7 @@ module _ (a : List ℕ) (h key : ℕ) (cut₀ cut : List ℕ) (cur i nxt : ℕ) 
   unfolding Reachable
   going-has s = rest s .0 .has
 
-  pub going-jump : passes a nxt key ≡ true → Going a h key cut₀ cut nxt i
+  pub going-jump : passes a nxt key ≡ true → Going a h key n cut₀ sums₀ cut sums nxt i
   going-jump p =
       let yes-pass = passes-yes a nxt key p in
       let s = yes-pass .0 in
@@ -140,6 +149,7 @@ module _ (a : List ℕ) (h key : ℕ) (cut₀ cut : List ℕ) (cur i nxt : ℕ) 
         rs = g .rs;
         list = g .list;
         post = j .after;
+        all = g .all;
         inside = g .inside;
         high = omega arith;
         has = rest s .0 .has;
@@ -154,12 +164,15 @@ module _ (a : List ℕ) (h key : ℕ) (cut₀ cut : List ℕ) (cur i nxt : ℕ) 
             ∙ last-append a k cur (j .before) (nxt ∷ front a key (j .after))
             ∙ last-here a k (lastWith a k cur (j .before)) nxt (front a key (j .after)) (omega arith);
         done = g .done;
+        sums-done = g .sums-done;
         long = g .long;
         kept = g .kept;
+        sums-long = g .sums-long;
+        sums-kept = g .sums-kept;
       }
 
-  pub going-lower : passes a nxt key ≡ false → Going a h key cut₀ (set cut (i - 1) cur) cur (i - 1)
-  going-lower p =
+  pub going-lower : passes a nxt key ≡ false → (v : ℕ) → v ≡ word a cur (11 + (i - 1)) → Going a h key n cut₀ sums₀ (set cut (i - 1) cur) (set sums (i - 1) v) cur (i - 1)
+  going-lower p v v-is =
       let none = none-in-front a (i - 1) key (g .post) (g .chain) (g .falling) (subst (λ (n : ℕ). passes a n key ≡ false) is-next p) in
       let here : cur ≡ lastWith a (i - 1) h (front a key (g .rs)) = sym (g .same (i - 1) (omega arith) ∙ last-none a (i - 1) cur (front a key (g .post)) none) in
       let long = g .long in
@@ -168,6 +181,7 @@ module _ (a : List ℕ) (h key : ℕ) (cut₀ cut : List ℕ) (cur i nxt : ℕ) 
         rs = g .rs;
         list = g .list;
         post = g .post;
+        all = g .all;
         inside = omega arith;
         high = let x = g .high in omega arith;
         has = g .has;
@@ -177,15 +191,24 @@ module _ (a : List ℕ) (h key : ℕ) (cut₀ cut : List ℕ) (cur i nxt : ℕ) 
         few = g .few;
         same = λ k below. g .same k (omega arith);
         done = λ k low high. stored k low high here;
+        sums-done = λ k low high. stored-sum k low high here;
         long = omega (arith, length-set cut (i - 1) cur);
         kept = length-set cut (i - 1) cur ∙ g .kept;
+        sums-long = let l = g .sums-long in omega (arith, length-set sums (i - 1) v);
+        sums-kept = length-set sums (i - 1) v ∙ g .sums-kept;
       }
     where
-      stored : (k : ℕ) → i - 1 ≤ k → k < 8 → cur ≡ lastWith a (i - 1) h (front a key (g .rs)) → getD (set cut (i - 1) cur) k 0 ≡ lastWith a k h (front a key (g .rs))
+      stored : (k : ℕ) → i - 1 ≤ k → k < n → cur ≡ lastWith a (i - 1) h (front a key (g .rs)) → getD (set cut (i - 1) cur) k 0 ≡ lastWith a k h (front a key (g .rs))
       stored k low high here =
           eq-or-ne k (i - 1)
-          (λ same. rw same (getD-set-same cut (i - 1) cur 0 (let l = g .long in let n = g .inside in omega arith) ∙ here))
+          (λ same. rw same (getD-set-same cut (i - 1) cur 0 (let l = g .long in let x = g .inside in let y = g .all in omega arith) ∙ here))
           (λ other. getD-set-other cut (i - 1) k cur 0 other ∙ g .done k (omega arith) high)
+
+      stored-sum : (k : ℕ) → i - 1 ≤ k → k < n → cur ≡ lastWith a (i - 1) h (front a key (g .rs)) → getD (set sums (i - 1) v) k 0 ≡ adjust a (lastWith a k h (front a key (g .rs))) k
+      stored-sum k low high here =
+          eq-or-ne k (i - 1)
+          (λ same. rw same (getD-set-same sums (i - 1) v 0 (let l = g .sums-long in let x = g .inside in let y = g .all in omega arith) ∙ v-is ∙ ap (λ (x : ℕ). adjust a x (i - 1)) here))
+          (λ other. getD-set-other sums (i - 1) k v 0 other ∙ g .sums-done k (omega arith) high)
 
   pub going-less : passes a nxt key ≡ true → i + count 512 a (forward a nxt 0) < i + count 512 a (forward a cur 0)
   going-less p =
@@ -200,12 +223,15 @@ module _ (a : List ℕ) (h key : ℕ) (cut₀ cut : List ℕ) (cur i nxt : ℕ) 
       let then-left = count-is 512 a (j .after) (forward a nxt 0) (r .1) (r .0 .links .at 0 (r .0 .low)) (omega arith) in
       omega arith
 
-pub going-done : (a : List ℕ) (h key : ℕ) (cut₀ cut : List ℕ) (cur i : ℕ) → Going a h key cut₀ cut cur i → i ≤ 0 → (rs : List ℕ) → Searchable a h rs → CutAt a h key rs cut
-going-done a h key cut₀ cut cur i g z rs s =
+pub going-done : (a : List ℕ) (h key n : ℕ) (cut₀ sums₀ cut sums : List ℕ) (cur i : ℕ) → Going a h key n cut₀ sums₀ cut sums cur i → i ≤ 0 → (rs : List ℕ) → Searchable a h rs → CutAt a h key n rs cut sums
+going-done a h key n cut₀ sums₀ cut sums cur i g z rs s =
     let same : g .rs ≡ rs = one-list a h (g .rs) rs (g .list .linked) (s .linked) in
     record {
       long = g .long;
+      sums-long = g .sums-long;
       at = λ k e. g .done k (omega arith) e ∙ ap (λ (l : List ℕ). lastWith a k h (front a key l)) same;
+      sums-at = λ k e.
+          g .sums-done k (omega arith) e ∙ ap (λ (l : List ℕ). adjust a (lastWith a k h (front a key l)) k) same;
     }
 
 -- The test of the search: a law for each way out.

@@ -5,8 +5,8 @@ use mathlib.Core.List.{List, [], _∷_}
 use Prim.Native.Nat.{ℕ, _≤_, _<_}
 use lib.Dec.{leb}
 use lib.ListN.{length, getD}
-use Rattle.arena.specs.Arena.{mWord}
-use Rattle.arena.specs.Lazy.{lastWith}
+use Rattle.arena.specs.Arena.{level, mWord, adjust}
+use Rattle.arena.specs.Lazy.{nextWith, lastWith}
 use Rattle.arena.specs.Chain.{Has, All, Linked}
 
 -- The first records of rs, up to the first whose m is below the key.
@@ -25,10 +25,19 @@ pub record Searchable (a : List ℕ) (h : ℕ) (rs : List ℕ) : Type 0 where
   pub falling : Falling a rs
   pub few : length rs ≤ 512
 
--- The cut of the list rs of the head h: for each link k the last record with it in front.
-pub record CutAt (a : List ℕ) (h key : ℕ) (rs cut : List ℕ) : Type 0 where
+-- The records in front have n links: each link below n is on one of them, and none from n on.
+pub record LinkCount (a : List ℕ) (key : ℕ) (rs : List ℕ) (n : ℕ) : Type 0 where
+  pub some : 1 ≤ n
+  pub few : n ≤ 8
+  pub with-link : (k : ℕ) → k < n → 1 ≤ nextWith a k (front a key rs)
+  pub lower : All (λ x. level a x ≤ n) (front a key rs)
+
+-- The cut of the list rs of the head h below link n: for each link k the last record with it in front, and its adjust.
+pub record CutAt (a : List ℕ) (h key n : ℕ) (rs cut sums : List ℕ) : Type 0 where
   pub long : 8 ≤ length cut
-  pub at : (k : ℕ) → k < 8 → getD cut k 0 ≡ lastWith a k h (front a key rs)
+  pub sums-long : 8 ≤ length sums
+  pub at : (k : ℕ) → k < n → getD cut k 0 ≡ lastWith a k h (front a key rs)
+  pub sums-at : (k : ℕ) → k < n → getD sums k 0 ≡ adjust a (lastWith a k h (front a key rs)) k
 
 -- Whether r is a record, and its m is at least the key.
 unfoldable pub passes : List ℕ → ℕ → ℕ → Bool

@@ -7,7 +7,6 @@ mod first_p;
 pub mod merge;
 mod newer_step;
 mod older_step;
-mod open_sums;
 mod raise_chain;
 mod relink;
 mod runs;

@@ -1,9 +1,11 @@
 // The search for the records in front of a list that are not below a key.
 ghost use mathlib.Core.Path.{_≡_};
+ghost use mathlib.Core.Bool.{true};
 ghost use mathlib.Core.List.{List};
 ghost use Prim.Native.Nat.{ℕ, _≤_};
 ghost use lib.ListN.{length};
-ghost use Rattle.merging.specs.Cut.{Searchable, CutAt, Reachable, passes};
+ghost use Rattle.arena.specs.Arena.{forward};
+ghost use Rattle.merging.specs.Cut.{Searchable, LinkCount, CutAt, Reachable, passes};
 use arena::words::get;
 use arena::words::wide;
 
@@ -18,14 +20,34 @@ pub fn may_pass(arena: &[u32], r: usize, key: u32) -> bool
     key <= get(arena, r, 1)
 }
 
-// The last record with each link in front, the head where there is none. The arena is only read.
-pub fn search(arena: &[u32], head: usize, key: u32, cut: &mut [usize])
+// How many links the records in front have, where one of them has link 1. They are counted from below, since few records
+// have many links.
+pub fn count_links(arena: &[u32], head: usize, key: u32) -> usize
     requires { ⌜ ((rs : List ℕ) × Searchable (now arena) head rs) ⌝ }
-    requires { ⌜ 8 ≤ length (now cut) ⌝ }
-    ensures { λ _. ⌜ ((rs : List ℕ) → Searchable (now (arena .entry)) head rs → CutAt (now (arena .entry)) head key rs (now (cut .exit))) ⌝ }
+    requires { ⌜ passes (now arena) (forward (now arena) head 1) key ≡ true ⌝ }
+    ensures { λ n. ⌜ ((rs : List ℕ) → Searchable (now (arena .entry)) head rs → LinkCount (now (arena .entry)) key rs n) ⌝ }
+{
+    let mut n = 2;
+    while n < 8 {
+        let next = wide(get(arena, head, 3 + n));
+        if may_pass(arena, next, key) {
+            n += 1;
+        } else {
+            return n;
+        }
+    }
+    n
+}
+
+// The last record with each link below n in front, the head where there is none, and its adjust of that link. The arena
+// is only read.
+pub fn search(arena: &[u32], head: usize, key: u32, n: usize, cut: &mut [usize], sums: &mut [u32])
+    requires { ⌜ ((rs : List ℕ) × Searchable (now arena) head rs) ⌝ }
+    requires { ⌜ (n ≤ 8) × (8 ≤ length (now cut)) × (8 ≤ length (now sums)) ⌝ }
+    ensures { λ _. ⌜ ((rs : List ℕ) → Searchable (now (arena .entry)) head rs → CutAt (now (arena .entry)) head key n rs (now (cut .exit)) (now (sums .exit))) ⌝ }
 {
     let mut cur = head;
-    let mut i = 8;
+    let mut i = n;
     while 0 < i {
         let k = i - 1;
         let next = wide(get(arena, cur, 3 + k));
@@ -33,6 +55,7 @@ pub fn search(arena: &[u32], head: usize, key: u32, cut: &mut [usize])
             cur = next;
         } else {
             cut[k] = cur;
+            sums[k] = get(arena, cur, 11 + k);
             i = k;
         }
     }

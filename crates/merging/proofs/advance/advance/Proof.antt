@@ -2,7 +2,7 @@
 -- Where the next record with link 1 does not pass, no record in front has link 1.
 use borrow.Author.Needs.{needs}
 use Rattle.merging.proofs.Passing.{link-reach}
-use Rattle.merging.proofs.RunLaws.{second-stops}
+use Rattle.merging.proofs.RunLaws.{second-passes}
 use Rattle.merging.proofs.advance.advance.Statement.{statement}
 use Rattle.merging.proofs.advance.advance.Tie as tie
 
@@ -16,14 +16,18 @@ may-pass-requires : tie.Need-may-pass-requires
 may-pass-requires c κs = link-reach _ _ _ (c .before .before .before .before .before .before .pre .4 .list) 1 _ _ (search needs) (c .before .before .get .ensures) (c .before .wide .ensures)
 
 cut-run-requires : tie.Need-cut-run-requires
-cut-run-requires c κs = search needs
+cut-run-requires c κs =
+    let at-may-pass = c .before .before .before in
+    let at-wide = at-may-pass .before .before in
+    let entry = at-wide .before .before .before .before .before in
+    (entry .pre, second-passes _ _ _ _ _ _ _ (at-wide .before .get .ensures) (at-wide .wide .ensures) (at-may-pass .may-pass .ensures) (c .before .before .if1 .taken))
 
 walk-run-requires : tie.Need-walk-run-requires
 walk-run-requires c κs =
     let at-may-pass = c .before .before .before in
     let at-wide = at-may-pass .before .before in
     let entry = at-wide .before .before .before .before .before in
-    (entry .pre, second-stops _ _ _ _ _ _ (at-wide .before .get .ensures) (at-wide .wide .ensures) (at-may-pass .may-pass .ensures) (c .before .before .if1 .left))
+    (entry .pre, second-passes _ _ _ _ _ _ _ (at-wide .before .get .ensures) (at-wide .wide .ensures) (at-may-pass .may-pass .ensures) (c .before .before .if1 .left))
 
 same-length : tie.Need-same-length
 same-length c = search needs

@@ -1,4 +1,4 @@
--- `merging::search::search` meets its contract: the cut of the list for the key.
+-- `merging::search::search` meets its contract: the cut of the list for the key, with its adjusts.
 -- The loop keeps `Going`, and its measure is the present link and the records left together.
 use borrow.Author.Needs.{needs}
 use Rattle.arena.specs.Arena.{forward}
@@ -10,10 +10,10 @@ use Rattle.merging.proofs.search.search.Statement.{statement}
 use Rattle.merging.proofs.search.search.Tie as tie
 
 abbrev Inv-loop : tie.InvT-loop
-Inv-loop arena head key cut₀ cur₀ i₀ cut cur i = Going arena head key cut₀ cut cur i
+Inv-loop arena head key n cut₀ sums₀ cur₀ i₀ cut sums cur i = Going arena head key n cut₀ sums₀ cut sums cur i
 
 abbrev μ-loop : tie.MeasureT-loop
-μ-loop arena head key cut₀ cur₀ i₀ cut cur i = i + count 512 arena (forward arena cur 0)
+μ-loop arena head key n cut₀ sums₀ cur₀ i₀ cut sums cur i = i + count 512 arena (forward arena cur 0)
 
 loop-holds : tie.Need-loop-holds Inv-loop μ-loop
 loop-holds c = search (needs, going-start)
@@ -31,13 +31,13 @@ wide-requires : tie.Need-wide-requires Inv-loop μ-loop
 wide-requires c κs = search needs
 
 may-pass-requires : tie.Need-may-pass-requires Inv-loop μ-loop
-may-pass-requires c κs = going-has _ _ _ _ _ _ _ _ (c .before .before .before .loop .inv) (c .before .before .loop-test .taken) (c .wide .ensures ∙ c .before .get .ensures)
+may-pass-requires c κs = going-has _ _ _ _ _ _ _ _ _ _ _ (c .before .before .before .loop .inv) (c .before .before .loop-test .taken) (c .wide .ensures ∙ c .before .get .ensures)
 
 loop-less : tie.Need-loop-less Inv-loop μ-loop
-loop-less c = going-less _ _ _ _ _ _ _ _ (c .before .before .before .before .before .loop .inv) (c .before .before .before .before .loop-test .taken) (c .before .before .wide .ensures ∙ c .before .before .before .get .ensures) (sym (c .before .may-pass .ensures) ∙ c .if1 .taken)
+loop-less c = going-less _ _ _ _ _ _ _ _ _ _ _ (c .before .before .before .before .before .loop .inv) (c .before .before .before .before .loop-test .taken) (c .before .before .wide .ensures ∙ c .before .before .before .get .ensures) (sym (c .before .may-pass .ensures) ∙ c .if1 .taken)
 
 loop-again : tie.Need-loop-again Inv-loop μ-loop
-loop-again c = going-jump _ _ _ _ _ _ _ _ (c .before .before .before .before .before .loop .inv) (c .before .before .before .before .loop-test .taken) (c .before .before .wide .ensures ∙ c .before .before .before .get .ensures) (sym (c .before .may-pass .ensures) ∙ c .if1 .taken)
+loop-again c = going-jump _ _ _ _ _ _ _ _ _ _ _ (c .before .before .before .before .before .loop .inv) (c .before .before .before .before .loop-test .taken) (c .before .before .wide .ensures ∙ c .before .before .before .get .ensures) (sym (c .before .may-pass .ensures) ∙ c .if1 .taken)
 
 mul-cut : tie.Need-mul-cut Inv-loop μ-loop
 mul-cut c = search needs
@@ -45,14 +45,29 @@ mul-cut c = search needs
 slice-write-cut : tie.Need-slice-write-cut Inv-loop μ-loop
 slice-write-cut c = search needs
 
+add-get-2 : tie.Need-add-get-2 Inv-loop μ-loop
+add-get-2 c = search needs
+
+get-requires-2 : tie.Need-get-requires-2 Inv-loop μ-loop
+get-requires-2 c κs = (c .before .before .before .before .before .loop .inv .has, search needs)
+
+mul-sums : tie.Need-mul-sums Inv-loop μ-loop
+mul-sums c = search needs
+
+slice-write-sums : tie.Need-slice-write-sums Inv-loop μ-loop
+slice-write-sums c = search needs
+
 loop-less-2 : tie.Need-loop-less-2 Inv-loop μ-loop
 loop-less-2 c = search needs
 
 loop-again-2 : tie.Need-loop-again-2 Inv-loop μ-loop
-loop-again-2 c = going-lower _ _ _ _ _ _ _ _ (c .before .before .before .before .before .loop .inv) (c .before .before .before .before .loop-test .taken) (c .before .before .wide .ensures ∙ c .before .before .before .get .ensures) (sym (c .before .may-pass .ensures) ∙ c .if1 .left)
+loop-again-2 c = going-lower _ _ _ _ _ _ _ _ _ _ _ (c .before .before .before .before .before .before .loop .inv) (c .before .before .before .before .before .loop-test .taken) (c .before .before .before .wide .ensures ∙ c .before .before .before .before .get .ensures) (sym (c .before .before .may-pass .ensures) ∙ c .before .if1 .left) _ (c .get2 .ensures)
 
 same-length : tie.Need-same-length Inv-loop μ-loop
 same-length c = c .before .loop .inv .kept
+
+same-length-2 : tie.Need-same-length-2 Inv-loop μ-loop
+same-length-2 c = c .before .loop .inv .sums-kept
 
 returns : tie.Need-returns Inv-loop μ-loop
 returns c = search (needs, going-done)
@@ -73,7 +88,12 @@ search-spec =
     loop-again
     mul-cut
     slice-write-cut
+    add-get-2
+    get-requires-2
+    mul-sums
+    slice-write-sums
     loop-less-2
     loop-again-2
     same-length
+    same-length-2
     returns)
