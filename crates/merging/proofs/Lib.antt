@@ -1,4 +1,4 @@
-pub mod Adding
+pub mod CacheLaws
 pub mod SearchLaws
 pub mod CountLaws
 pub mod LiftLaws

@@ -1,25 +1,30 @@
 -- The whole merge: the cleared result and the two lists are a merge on its way, and when it is over and closed the result holds the record-carrying merge.
 -- Clearing the result's head touches no record of the two lists, and closing touches no value.
-use mathlib.Core.Path.{_≡_, refl, sym, ap₂, subst, _∙_}
+use mathlib.Core.Path.{_≡_, refl, sym, ap, ap₂, subst, _∙_}
 use mathlib.Core.List.{List, [], _∷_, List·Memᴰ, List·Memᴰ·head, List·Memᴰ·tail}
 use Prim.Native.Nat.{ℕ, _+_, _^_, _≤_, _<_}
 use native.Mathlib.Omega.{arith}
-use lib.ListN.{length, replicate}
+use lib.ListN.{length, replicate, getD-replicate}
 use Rattle.slicing.specs.Item.{Item, size}
 use Rattle.slicing.specs.Good.{Ordered}
 use Rattle.slicing.specs.Recorded.{Recorded, mergeRecorded, items}
-use Rattle.arena.specs.Arena.{mWord, adjust}
+use Rattle.arena.specs.Arena.{level, mWord, adjust}
 use Rattle.arena.specs.Lazy.{held}
 use Rattle.arena.specs.Chain.{All, Away, Linked, Same, pUnder, after, trues}
 use Rattle.arena.specs.Building.{Cleared}
+use Rattle.arena.specs.Turning.{Suffixes, Summable}
 use Rattle.arena.proofs.Frames.{all-map, all-both, all-refl, same-shape, linked-frame, trues-frame}
 use Rattle.arena.proofs.PutLaws.{same-trans}
 use Rattle.merging.specs.Carried.{carried}
 use Rattle.merging.specs.Cut.{Falling, Searchable}
 use Rattle.merging.specs.Open.{OpenLinked, CutC, Closed}
+use Rattle.merging.specs.Settled.{lastSums}
+use Rattle.merging.specs.Cached.{Kept}
 use Rattle.merging.specs.Trio.{Trio}
 use Rattle.merging.specs.Running.{Merging, Finished, RunsReady, RunsDone}
 use Rattle.merging.specs.Merge.{Mergeable, Merged}
+use Rattle.arena.proofs.Summing.{suffixes-none, suffixes-head}
+use Rattle.merging.proofs.CacheLaws.{suffixes-agree}
 use Rattle.merging.proofs.OpenLaws.{open-empty, ends-filled}
 use Rattle.merging.proofs.CarriedLaws.{carried-frame, carried-same}
 use Rattle.merging.proofs.ClosingLaws.{closed-value, closed-same}
@@ -161,6 +166,31 @@ module _ (a b : List ℕ) (ho hn hc : ℕ) (c : Cleared a hc b) where
   pub merge-ready : ((xs : List ℕ) × (ys : List ℕ) × Mergeable a ho hn hc xs ys) → RunsReady b ho hn (replicate 8 hc)
   merge-ready p =
       (b, hc, p .0, p .1, p .0, p .1, [], whole a b ho hn hc (p .0) (p .1) (p .2) c, begins a b ho hn hc (p .0) (p .1) (p .2) c)
+
+  -- The sums kept at the start: those of the two heads, and none of the result's head.
+  head-summable : (h : ℕ) (rs zeros : List ℕ) → (h ≡ hc → ⊥) → Linked a h rs → length zeros ≡ 9 → Summable b h zeros
+  head-summable h rs zeros apart l nine =
+      let long = c .long in
+      let has = l .has in
+      let top : level b h ≡ 8 = c .outside h apart .at 0 (omega arith) ∙ l .top in
+      record { has = omega arith; low = omega arith; high = omega arith; nine = nine }
+
+  pub older-summable : ((xs : List ℕ) × (ys : List ℕ) × Mergeable a ho hn hc xs ys) → (zeros : List ℕ) → length zeros ≡ 9 → Summable b ho zeros
+  older-summable p zeros nine = head-summable ho (p .0) zeros (p .2 .older-result) (p .2 .older) nine
+
+  pub newer-summable : ((xs : List ℕ) × (ys : List ℕ) × Mergeable a ho hn hc xs ys) → (zeros : List ℕ) → length zeros ≡ 9 → Summable b hn zeros
+  newer-summable p zeros nine = head-summable hn (p .1) zeros (p .2 .newer-result) (p .2 .newer) nine
+
+  pub merge-kept : ((xs : List ℕ) × (ys : List ℕ) × Mergeable a ho hn hc xs ys) → (olders newers : List ℕ) → ((f : ℕ → ℕ) → Suffixes f (replicate 9 0) → Suffixes (after b f ho) olders) → ((f : ℕ → ℕ) → Suffixes f (replicate 9 0) → Suffixes (after b f hn) newers) → Kept b ho hn (replicate 8 hc) olders newers (replicate 9 0)
+  merge-kept p olders newers older newer =
+      record {
+        older = suffixes-head b ho olders (c .outside ho (p .2 .older-result) .at 0 (omega arith) ∙ p .2 .older .top) older;
+        newer = suffixes-head b hn newers (c .outside hn (p .2 .newer-result) .at 0 (omega arith) ∙ p .2 .newer .top) newer;
+        ends =
+            suffixes-agree (λ k. 0) (lastSums b (replicate 8 hc)) (replicate 9 0)
+            (λ k low high. ap (λ (x : ℕ). adjust b x k) (getD-replicate 8 k hc 0 high) ∙ c .built .still k high)
+            suffixes-none;
+      }
 
   module _ (d ends : List ℕ) (runs : RunsDone b d ho hn (replicate 8 hc) ends) where
     finished : (xs ys : List ℕ) (g : Mergeable a ho hn hc xs ys) → Finished b d ho hn hc xs ys ends (whole a b ho hn hc xs ys g c)

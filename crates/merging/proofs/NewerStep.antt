@@ -8,10 +8,13 @@ use lib.ListN.{length}
 use Rattle.slicing.specs.Recorded.{Recorded}
 use Rattle.arena.specs.Arena.{word, level, mWord, adjust}
 use Rattle.arena.specs.Chain.{Has, pUnder}
+use Rattle.arena.specs.Turning.{Summable}
 use Rattle.merging.specs.Cut.{front}
+use Rattle.merging.specs.Cached.{Cached, Kept}
 use Rattle.merging.specs.Advance.{behind, Movable, Moved}
 use Rattle.merging.specs.Running.{Merging, Further, NewerReady, NewerDone}
-use Rattle.merging.proofs.Advancing.{behind-shorter}
+use Rattle.merging.proofs.CacheLaws.{suffixes-agree}
+use Rattle.merging.proofs.Advancing.{behind-shorter, all-front}
 use Rattle.merging.proofs.DropLaws.{same-first, first-has}
 use Rattle.merging.proofs.TrioLaws.{trio-swap, trio-movable}
 use Rattle.merging.proofs.Steps.{newer-moves}
@@ -23,6 +26,9 @@ module _ (a : List ℕ) (ho hn v : ℕ) (ends : List ℕ) (p : NewerReady a ho h
 
   pub newer-has : Has a v
   newer-has = first-has a ho v (p .1, p .2, p .7 .waits .lists .older .linked) e
+
+  pub newer-some : 1 ≤ level a v
+  newer-some = subst (λ (x : ℕ). 1 ≤ level a x) (sym same) (p .7 .waits .lists .older .linked .chain .0 .low)
 
   pub newer-low : level a v ≤ 8
   newer-low = subst (λ (x : ℕ). level a x ≤ 8) (sym same) (p .7 .waits .lists .older .linked .chain .0 .high)
@@ -36,6 +42,25 @@ module _ (a : List ℕ) (ho hn v : ℕ) (ends : List ℕ) (p : NewerReady a ho h
       let less = p .8 in
       trio-movable a hn ho (p .0) (key + 1) (p .3) (p .4) (p .1 ∷ p .2) (p .5) ends
       (trio-swap a ho hn (p .0) (p .1 ∷ p .2) (p .3 ∷ p .4) (p .5) ends (p .7 .waits .lists)) (omega arith)
+
+  -- The sums kept, before the run is moved and after it.
+  module _ (olders newers lasts : List ℕ) (kept : Kept a ho hn ends olders newers lasts) where
+    pub newer-summable : Summable a v olders
+    newer-summable = record { has = newer-has; low = newer-some; high = newer-low; nine = kept .older .nine }
+
+    pub newer-cached : Cached a hn ends newers lasts
+    newer-cached = record { head = kept .newer; ends = kept .ends }
+
+    pub newer-kept : (key : ℕ) → key ≡ word a v 1 → (b : List ℕ) (q : ℕ) (ends' : List ℕ) → ((hc : ℕ) (cs : List ℕ) (r : ℕ) (rs : List ℕ) → Movable a hn hc (key + 1) cs r rs ends → Moved a b hn hc q cs (front a (key + 1) (r ∷ rs)) (behind a (key + 1) (r ∷ rs)) ends') → (newers' lasts' : List ℕ) → Cached b hn ends' newers' lasts' → Kept b ho hn ends' olders newers' lasts'
+    newer-kept key k b q ends' move newers' lasts' cached =
+        let lists = p .7 .waits .lists in
+        let d = move (p .0) (p .5) (p .3) (p .4) (newer-movable key k) in
+        let still = d .outside ho (λ e. lists .older-newer (sym e)) (λ e. lists .older-result (sym e)) (lists .older-off-result) (all-front (λ x. x ≡ ho → ⊥) a (key + 1) (p .3 ∷ p .4) (lists .older-off-newer)) in
+        record {
+          older = suffixes-agree (adjust a ho) (adjust b ho) olders (λ i low high. still .at (11 + i) (omega arith)) (kept .older);
+          newer = cached .head;
+          ends = cached .ends;
+        }
 
 -- The step over plain values: r is the older list's first record.
 module _ (a₀ a b : List ℕ) (ho hn hc : ℕ) (xs₀ ys₀ : List ℕ) (r : ℕ) (xs : List ℕ) (s : ℕ) (ys cs ends ends' : List ℕ) (all : List Recorded) (g : Merging a₀ a ho hn hc xs₀ ys₀ (r ∷ xs) (s ∷ ys) cs ends all) (less : mWord a r < mWord a s) (d : Moved a b hn hc (pUnder a (adjust a ho) r) cs (front a (mWord a r + 1) (s ∷ ys)) (behind a (mWord a r + 1) (s ∷ ys)) ends') where

@@ -8,14 +8,18 @@ use lib.ListN.{length, getD}
 use Rattle.slicing.specs.Recorded.{Recorded}
 use Rattle.arena.specs.Arena.{word, level, mWord, adjust}
 use Rattle.arena.specs.Lazy.{lastWith}
-use Rattle.arena.specs.Chain.{Has, Linked, pUnder}
-use Rattle.arena.proofs.ListLaws.{last-all}
+use Rattle.arena.specs.Chain.{Has, Away, Member, Linked, pUnder, after}
+use Rattle.arena.specs.Turning.{Suffixes, Summable}
+use Rattle.arena.proofs.ListLaws.{last-all, all-append}
 use Rattle.merging.specs.Cut.{front}
+use Rattle.merging.specs.Settled.{lastSums}
+use Rattle.merging.specs.Cached.{Cached, Kept}
 use Rattle.merging.specs.Advance.{behind, Movable, Moved}
 use Rattle.merging.specs.Dropping.{Dropped}
 use Rattle.merging.specs.Running.{Confined, Merging, Further, OlderReady, OlderDone}
 use Rattle.merging.proofs.OpenLaws.{open-has}
-use Rattle.merging.proofs.Advancing.{behind-shorter}
+use Rattle.merging.proofs.CacheLaws.{suffixes-agree}
+use Rattle.merging.proofs.Advancing.{behind-shorter, all-front}
 use Rattle.merging.proofs.DropLaws.{same-first, first-has}
 use Rattle.merging.proofs.TrioLaws.{trio-movable, trio-moved}
 use Rattle.merging.proofs.Steps.{older-stays, older-drops}
@@ -33,8 +37,14 @@ module _ (a : List ℕ) (ho hn v : ℕ) (ends : List ℕ) (p : OlderReady a ho h
   pub older-has : Has a v
   older-has = first-has a hn v (p .3, p .4, p .7 .waits .lists .newer .linked) e
 
+  pub older-some : 1 ≤ level a v
+  older-some = subst (λ (x : ℕ). 1 ≤ level a x) (sym same) (p .7 .waits .lists .newer .linked .chain .0 .low)
+
   pub older-low : level a v ≤ 8
   older-low = subst (λ (x : ℕ). level a x ≤ 8) (sym same) (p .7 .waits .lists .newer .linked .chain .0 .high)
+
+  pub older-summable : (olders newers lasts : List ℕ) → Kept a ho hn ends olders newers lasts → Summable a v newers
+  older-summable olders newers lasts kept = record { has = older-has; low = older-some; high = older-low; nine = kept .newer .nine }
 
   module _ (key : ℕ) (k : key ≡ word a v 1) where
     first : key ≡ mWord a (p .3)
@@ -67,6 +77,46 @@ module _ (a : List ℕ) (ho hn v : ℕ) (ends : List ℕ) (p : OlderReady a ho h
       pub newer-linked : Linked b hn (p .3 ∷ p .4)
       newer-linked =
           trio-moved a b ho hn (p .0) (mWord a (p .3)) (pUnder a (adjust a hn) (p .3)) (p .1) (p .2) (p .3 ∷ p .4) (p .5) ends ends' (p .7 .waits .lists) older-moved .newer .linked
+
+      -- The sums kept, after the run was moved.
+      module _ (olders newers lasts olders' lasts' : List ℕ) (kept : Kept a ho hn ends olders newers lasts) (cached : Cached b ho ends' olders' lasts') where
+        off-front : Away hn (front a (mWord a (p .3)) (p .1 ∷ p .2))
+        off-front = all-front (λ x. x ≡ hn → ⊥) a (mWord a (p .3)) (p .1 ∷ p .2) (p .7 .waits .lists .newer-off-older)
+
+        pub older-kept : Kept b ho hn ends' olders' newers lasts'
+        older-kept =
+            let lists = p .7 .waits .lists in
+            let still = older-moved .outside hn (lists .older-newer) (λ e. lists .newer-result (sym e)) (lists .newer-off-result) off-front in
+            record {
+              older = cached .head;
+              newer = suffixes-agree (adjust a hn) (adjust b hn) newers (λ i low high. still .at (11 + i) (omega arith)) (kept .newer);
+              ends = cached .ends;
+            }
+
+        pub passed-summable : Summable b v newers
+        passed-summable =
+            let member = subst (λ (x : ℕ). Member b x (p .4)) (sym same) (newer-linked .chain .0) in
+            record { has = member .has; low = member .low; high = member .high; nine = kept .newer .nine }
+
+        -- And after the newer list's first record left.
+        pub dropped-kept : (c newers' : List ℕ) → ((r : ℕ) (rs : List ℕ) → Linked b hn (r ∷ rs) → Dropped b c hn r rs) → ((f : ℕ → ℕ) → Suffixes f newers → Suffixes (after b f v) newers') → Kept c ho hn ends' olders' newers' lasts'
+        dropped-kept c newers' drop passed =
+            let lists = p .7 .waits .lists in
+            let now-kept = older-kept in
+            let f = drop (p .3) (p .4) newer-linked in
+            let off : (x : ℕ) → x < 8 → getD ends' x 0 ≡ hn → ⊥ = λ i few. subst (λ (x : ℕ). x ≡ hn → ⊥) (sym (older-moved .ends .at i few)) (last-all b i (λ x. x ≡ hn → ⊥) (p .0) result (λ e. lists .newer-result (sym e)) (all-append (λ x. x ≡ hn → ⊥) (p .5) (front a (mWord a (p .3)) (p .1 ∷ p .2)) (lists .newer-off-result) off-front)) in
+            record {
+              older =
+                  suffixes-agree (adjust b ho) (adjust c ho) olders'
+                  (λ i low high. f .outside ho (lists .older-newer) .at (11 + i) (omega arith)) (now-kept .older);
+              newer =
+                  suffixes-agree (after b (adjust b hn) v) (adjust c hn) newers'
+                  (λ i low high. f .sums i high ∙ ap (λ (x : ℕ). after b (adjust b hn) x i) (sym same))
+                  (passed (adjust b hn) (now-kept .newer));
+              ends =
+                  suffixes-agree (lastSums b ends') (lastSums c ends') lasts'
+                  (λ i low high. f .outside (getD ends' i 0) (off i high) .at (11 + i) (omega arith)) (now-kept .ends);
+            }
 
 -- The step over plain values: s is the newer list's first record, and the run of the older list was moved.
 module _ (a₀ a b : List ℕ) (ho hn hc : ℕ) (xs₀ ys₀ : List ℕ) (r : ℕ) (xs : List ℕ) (s : ℕ) (ys cs ends ends' : List ℕ) (all : List Recorded) (g : Merging a₀ a ho hn hc xs₀ ys₀ (r ∷ xs) (s ∷ ys) cs ends all) (tops : mWord a s ≤ mWord a r) (d : Moved a b ho hc (pUnder a (adjust a hn) s) cs (front a (mWord a s) (r ∷ xs)) (behind a (mWord a s) (r ∷ xs)) ends') where

@@ -16,15 +16,16 @@ use Rattle.arena.proofs.Cases.{lt-or-ge}
 use Rattle.arena.proofs.Frames.{all-both, all-refl, after-in, after-out, next-here}
 use Rattle.arena.proofs.ListLaws.{all-left}
 use Rattle.merging.specs.Cut.{front, LinkCount, CutAt, passes}
-use Rattle.merging.specs.Open.{relinkOne, Relinkable}
-use Rattle.merging.specs.Settled.{headSums, lastSums, Ends, Above, Settled}
+use Rattle.merging.specs.Open.{relinkOne, Relinkable, Relinked}
+use Rattle.merging.specs.Settled.{headSums, lastSums, Above, Settled}
 use Rattle.merging.specs.Advance.{behind, Movable, Moved}
+use Rattle.merging.specs.Cached.{Cached}
 use Rattle.merging.specs.Walk.{Walked}
+use Rattle.merging.proofs.CacheLaws.{renew-none}
 use Rattle.merging.proofs.SearchLaws.{front-in, none-in-front}
-use Rattle.merging.proofs.ClosingLaws.{ends-has}
 use Rattle.merging.proofs.RelinkWords.{Rewired, Ready, Replaced, rewired-none, rewired-turn, replaced-none, replaced-turn}
 use Rattle.merging.proofs.RelinkLaws.{ready, relinked}
-use Rattle.merging.proofs.Advancing.{linked, can-relink, moved}
+use Rattle.merging.proofs.Advancing.{linked, can-relink, moved, moved-cached}
 
 -- Sums that agree from link 1 up agree so after a record.
 after-agree : (a : List ℕ) (f g : ℕ → ℕ) (r : ℕ) → ((k : ℕ) → 1 ≤ k → k < 8 → g k ≡ f k) → (k : ℕ) → 1 ≤ k → k < 8 → after a g r k ≡ after a f r k
@@ -98,15 +99,6 @@ module _ (a : List ℕ) (h hc key : ℕ) (cs : List ℕ) (r : ℕ) (rs cutc : Li
 
   abbrev back : List ℕ
   back = behind a key (r ∷ rs)
-
-  -- The open list's ends, with which the front is to be entered.
-  pub run-ends : Ends a h cutc
-  run-ends =
-      record {
-        head-has = w .list .linked .has;
-        long = w .ends .long;
-        last-has = ends-has a hc cs cutc (w .result) (w .ends);
-      }
 
   module _ (stops : passes a (forward a h 1) key ≡ false) where
     lows : All (λ x. level a x ≤ 1) fr
@@ -191,7 +183,14 @@ module _ (a : List ℕ) (h hc key : ℕ) (cs : List ℕ) (r : ℕ) (rs cutc : Li
             let long = w .ends .long in
             replaced-turn cut cutc cutc 0 (omega arith) (replaced-none cut cutc)
 
+        relinks-all : Relinked b c h hc cs fr back cut sums cutc (set cutc 0 to) 1
+        relinks-all = relinked b h hc cs fr back cut sums cutc 1 can c rewired (set cutc 0 to) replaced
+
         pub run-moved : Moved a c h hc q cs fr back (set cutc 0 to)
         run-moved =
-            moved a h hc key cs r rs cutc w 1 one-link cut sums is-cut q b settled c (set cutc 0 to)
-            (relinked b h hc cs fr back cut sums cutc 1 can c rewired (set cutc 0 to) replaced)
+            moved a h hc key cs r rs cutc w 1 one-link cut sums is-cut q b settled c (set cutc 0 to) relinks-all
+
+        pub run-cached : (heads lasts : List ℕ) → Cached a h cutc heads lasts → Cached c h (set cutc 0 to) heads lasts
+        run-cached heads lasts k =
+            moved-cached a h hc key cs r rs cutc w 1 one-link cut sums is-cut q b settled c (set cutc 0 to) relinks-all
+            heads lasts heads lasts k (renew-none a cut heads) (renew-none c (set cutc 0 to) lasts)

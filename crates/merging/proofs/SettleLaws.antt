@@ -3,37 +3,18 @@
 use mathlib.Core.Path.{_≡_, refl, sym, ap, ap₂, _∙_}
 use mathlib.Core.List.{List, [], _∷_, _++_, map}
 use Prim.Native.Nat.{ℕ, suc, _+_, _%_, _^_, _≤_, _<_}
-use native.Mathlib.Numerals.{add-one}
 use native.Mathlib.Omega.{arith}
 use Rattle.arena.specs.Arena.{level, pWord}
 use Rattle.arena.specs.Lazy.{sumFrom}
 use Rattle.arena.specs.Chain.{wrap, All, pUnder, after, trues, leaving, Shape, Value}
 use Rattle.arena.proofs.Cases.{lt-or-ge}
-use Rattle.arena.proofs.SumLaws.{sum-none, sum-more, sum-agree, sum-frame, sum-split}
+use Rattle.arena.proofs.SumLaws.{sum-agree, sum-frame, sum-split}
 use Rattle.arena.proofs.Frames.{after-in, after-out, trues-frame}
 use Rattle.merging.specs.Lift.{Lifted}
 use Rattle.merging.proofs.LiftLaws.{Bumped, under-lifted, after-lifted}
 
 add-both : (t x y : ℕ) → x % 2 ^ 32 ≡ y % 2 ^ 32 → (t + x) % 2 ^ 32 ≡ (t + y) % 2 ^ 32
 add-both t x y e = omega arith
-
--- The difference of two sums over the links from n on, one link after the other.
-pub above-none : (f g : ℕ → ℕ) (n : ℕ) → (0 + sumFrom f n n) % 2 ^ 32 ≡ sumFrom g n n % 2 ^ 32
-above-none f g n =
-    let none : sumFrom f n n ≡ 0 = sum-none f n n (omega arith) in
-    let nor : sumFrom g n n ≡ 0 = sum-none g n n (omega arith) in
-    omega arith
-
-one-link : (d e s t x y : ℕ) → (d + s) % 2 ^ 32 ≡ t % 2 ^ 32 → (e + x) % 2 ^ 32 ≡ (d + y) % 2 ^ 32 → (e + (s + x)) % 2 ^ 32 ≡ (t + y) % 2 ^ 32
-one-link d e s t x y p q =
-    ap (λ (z : ℕ). z % 2 ^ 32) (omega arith) ∙ add-both s (e + x) (d + y) q ∙ ap (λ (z : ℕ). z % 2 ^ 32) (omega arith)
-    ∙ add-both y (d + s) t p ∙ ap (λ (z : ℕ). z % 2 ^ 32) (omega arith)
-
-pub above-next : (f g : ℕ → ℕ) (n k d e : ℕ) → n ≤ k → (d + sumFrom f n k) % 2 ^ 32 ≡ sumFrom g n k % 2 ^ 32 → (e + f k) % 2 ^ 32 ≡ (d + g k) % 2 ^ 32 → (e + sumFrom f n (k + 1)) % 2 ^ 32 ≡ sumFrom g n (k + 1) % 2 ^ 32
-above-next f g n k d e low p q =
-    ap (λ (x : ℕ). (e + x) % 2 ^ 32) (ap (sumFrom f n) (add-one k) ∙ sum-more f n k low)
-    ∙ one-link d e (sumFrom f n k) (sumFrom g n k) (f k) (g k) p q
-    ∙ ap (λ (x : ℕ). x % 2 ^ 32) (sym (ap (sumFrom g n) (add-one k) ∙ sum-more g n k low))
 
 -- The first record, if there is one, has link k: sums that differ at k alone are the same to such a list.
 abbrev pub Starts : List ℕ → ℕ → List ℕ → Type 0

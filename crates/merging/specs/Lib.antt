@@ -3,6 +3,7 @@ pub mod Lift
 pub mod Dropping
 pub mod Open
 pub mod Settled
+pub mod Cached
 pub mod Advance
 pub mod Walk
 pub mod Carried

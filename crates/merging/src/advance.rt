@@ -3,6 +3,7 @@ ghost use mathlib.Core.List.{List, _∷_};
 ghost use Prim.Native.Nat.{ℕ};
 ghost use Rattle.merging.specs.Cut.{front};
 ghost use Rattle.merging.specs.Advance.{behind, Movable, Moved};
+ghost use Rattle.merging.specs.Cached.{Cached};
 use crate::cut_run::cut_run;
 use crate::search::may_pass;
 use crate::walk_run::walk_run;
@@ -10,15 +11,26 @@ use arena::words::get;
 use arena::words::wide;
 
 // Moves the records in front of a list, those of m at least the key, behind the open list that ends at `cutc`, with
-// every true p raised by q. The list keeps the rest. A run in which no record has link 1 is one walk.
-pub fn advance(arena: &mut [u32], head: usize, key: u32, q: u32, cutc: &mut [usize])
+// every true p raised by q. The list keeps the rest. A run in which no record has link 1 is one walk. The sums of the head
+// and of the ends are kept in `sums` and `lasts`.
+pub fn advance(
+    arena: &mut [u32],
+    head: usize,
+    key: u32,
+    q: u32,
+    cutc: &mut [usize],
+    sums: &mut [u32],
+    lasts: &mut [u32],
+)
     requires { ⌜ ((hc : ℕ) × (cs : List ℕ) × (r : ℕ) × (rs : List ℕ) × Movable (now arena) head hc key cs r rs (now cutc)) ⌝ }
+    requires { ⌜ Cached (now arena) head (now cutc) (now sums) (now lasts) ⌝ }
     ensures { λ _. ⌜ ((hc : ℕ) (cs : List ℕ) (r : ℕ) (rs : List ℕ) → Movable (now (arena .entry)) head hc key cs r rs (now (cutc .entry)) → Moved (now (arena .entry)) (now (arena .exit)) head hc q cs (front (now (arena .entry)) key (r ∷ rs)) (behind (now (arena .entry)) key (r ∷ rs)) (now (cutc .exit))) ⌝ }
+    ensures { λ _. ⌜ Cached (now (arena .exit)) head (now (cutc .exit)) (now (sums .exit)) (now (lasts .exit)) ⌝ }
 {
     let second = wide(get(arena, head, 4));
     if may_pass(arena, second, key) {
-        cut_run(arena, head, key, q, cutc);
+        cut_run(arena, head, key, q, cutc, sums, lasts);
     } else {
-        walk_run(arena, head, key, q, cutc);
+        walk_run(arena, head, key, q, cutc, sums, lasts);
     }
 }

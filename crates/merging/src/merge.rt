@@ -5,15 +5,30 @@ ghost use Rattle.merging.specs.Merge.{Mergeable, Merged};
 use crate::close::close;
 use crate::runs::merge_runs;
 use arena::empty::clear_head;
+use arena::sums::pass;
 
 // Makes the list of a third head the merge of the lists of two heads: whole runs of records change lists at once, and
-// an adjust raises all that it covers. The two heads are used up.
+// an adjust raises all that it covers. The sums of the heads and of the ends are kept beside the arena. The two heads are
+// used up.
 pub fn merge(arena: &mut [u32], older: usize, newer: usize, result: usize)
     requires { ⌜ ((xs : List ℕ) × (ys : List ℕ) × Mergeable (now arena) older newer result xs ys) ⌝ }
     ensures { λ _. ⌜ ((xs ys : List ℕ) → Mergeable (now (arena .entry)) older newer result xs ys → Merged (now (arena .entry)) (now (arena .exit)) older newer result xs ys) ⌝ }
 {
     clear_head(arena, result);
     let mut ends = [result; 8];
-    merge_runs(arena, older, newer, &mut ends);
+    let mut olders = [0u32; 9];
+    let mut newers = [0u32; 9];
+    let mut lasts = [0u32; 9];
+    pass(arena, older, &mut olders);
+    pass(arena, newer, &mut newers);
+    merge_runs(
+        arena,
+        older,
+        newer,
+        &mut ends,
+        &mut olders,
+        &mut newers,
+        &mut lasts,
+    );
     close(arena, &ends);
 }

@@ -1,17 +1,28 @@
 // The step of the merge that moves a run of the newer list.
+ghost use Rattle.merging.specs.Cached.{Kept};
 ghost use Rattle.merging.specs.Running.{NewerReady, NewerDone};
 use crate::advance::advance;
-use crate::first_p::first_p;
+use arena::sums::true_p;
 use arena::words::get;
 use arena::words::wide;
 
 // Moves the records of the newer list whose m is larger than that of the older list's first.
-pub fn newer_step(arena: &mut [u32], older: usize, newer: usize, ends: &mut [usize])
+pub fn newer_step(
+    arena: &mut [u32],
+    older: usize,
+    newer: usize,
+    ends: &mut [usize],
+    olders: &mut [u32],
+    newers: &mut [u32],
+    lasts: &mut [u32],
+)
     requires { ⌜ NewerReady (now arena) older newer (now ends) ⌝ }
+    requires { ⌜ Kept (now arena) older newer (now ends) (now olders) (now newers) (now lasts) ⌝ }
     ensures { λ _. ⌜ NewerDone (now (arena .entry)) (now (arena .exit)) older newer (now (ends .entry)) (now (ends .exit)) ⌝ }
+    ensures { λ _. ⌜ Kept (now (arena .exit)) older newer (now (ends .exit)) (now (olders .exit)) (now (newers .exit)) (now (lasts .exit)) ⌝ }
 {
     let r = wide(get(arena, older, 3));
     let key = get(arena, r, 1);
-    let q = first_p(arena, older, r);
-    advance(arena, newer, key + 1, q, ends);
+    let q = true_p(arena, r, olders);
+    advance(arena, newer, key + 1, q, ends, newers, lasts);
 }

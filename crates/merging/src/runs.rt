@@ -1,6 +1,7 @@
 // The runs of the merge, one after the other, while both lists have a record.
 ghost use mathlib.Core.Path.{_≡_};
 ghost use Rattle.arena.specs.Chain.{Has};
+ghost use Rattle.merging.specs.Cached.{Kept};
 ghost use Rattle.merging.specs.Running.{StepReady, StepDone, bothWait, RunsReady, RunsDone};
 use crate::newer_step::newer_step;
 use crate::older_step::older_step;
@@ -19,29 +20,49 @@ fn both_wait(arena: &[u32], older: usize, newer: usize) -> bool
 }
 
 // Moves a run of the list whose first m is the larger. At equal m the older list goes first.
-fn step(arena: &mut [u32], older: usize, newer: usize, ends: &mut [usize])
+fn step(
+    arena: &mut [u32],
+    older: usize,
+    newer: usize,
+    ends: &mut [usize],
+    olders: &mut [u32],
+    newers: &mut [u32],
+    lasts: &mut [u32],
+)
     requires { ⌜ StepReady (now arena) older newer (now ends) ⌝ }
+    requires { ⌜ Kept (now arena) older newer (now ends) (now olders) (now newers) (now lasts) ⌝ }
     ensures { λ _. ⌜ StepDone (now (arena .entry)) (now (arena .exit)) older newer (now (ends .entry)) (now (ends .exit)) ⌝ }
+    ensures { λ _. ⌜ Kept (now (arena .exit)) older newer (now (ends .exit)) (now (olders .exit)) (now (newers .exit)) (now (lasts .exit)) ⌝ }
 {
     let r = wide(get(arena, older, 3));
     let s = wide(get(arena, newer, 3));
     let top = get(arena, r, 1);
     if get(arena, s, 1) <= top {
-        older_step(arena, older, newer, ends);
+        older_step(arena, older, newer, ends, olders, newers, lasts);
     } else {
-        newer_step(arena, older, newer, ends);
+        newer_step(arena, older, newer, ends, olders, newers, lasts);
     }
 }
 
 // Moves runs to the open list that ends at `ends` until one of the two lists is empty. What the other still has is
 // no part of the merge.
-pub fn merge_runs(arena: &mut [u32], older: usize, newer: usize, ends: &mut [usize])
+pub fn merge_runs(
+    arena: &mut [u32],
+    older: usize,
+    newer: usize,
+    ends: &mut [usize],
+    olders: &mut [u32],
+    newers: &mut [u32],
+    lasts: &mut [u32],
+)
     requires { ⌜ RunsReady (now arena) older newer (now ends) ⌝ }
+    requires { ⌜ Kept (now arena) older newer (now ends) (now olders) (now newers) (now lasts) ⌝ }
     ensures { λ _. ⌜ RunsDone (now (arena .entry)) (now (arena .exit)) older newer (now (ends .entry)) (now (ends .exit)) ⌝ }
+    ensures { λ _. ⌜ Kept (now (arena .exit)) older newer (now (ends .exit)) (now (olders .exit)) (now (newers .exit)) (now (lasts .exit)) ⌝ }
 {
     let mut more = both_wait(arena, older, newer);
     while more {
-        step(arena, older, newer, ends);
+        step(arena, older, newer, ends, olders, newers, lasts);
         more = both_wait(arena, older, newer);
     }
 }

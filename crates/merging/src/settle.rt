@@ -1,8 +1,8 @@
 // Settling the front of a list that is to follow another one.
 ghost use mathlib.Core.List.{List};
-ghost use Prim.Native.Nat.{ℕ, _≤_, _<_};
+ghost use Prim.Native.Nat.{ℕ, _<_};
 ghost use Rattle.arena.specs.Chain.{Has};
-ghost use Rattle.merging.specs.Settled.{Ends, Carried, Above, Ready, Settled};
+ghost use Rattle.merging.specs.Settled.{Carried, Above, Ready, Settled};
 use crate::raise_chain::raise_chain;
 use arena::words::get;
 use arena::words::wide;
@@ -16,28 +16,24 @@ fn next_carry(arena: &[u32], head: usize, last: usize, k: usize, carry: u32) -> 
     std::num::wrapping_sub_u32(left, get(arena, last, 11 + k))
 }
 
-// How much more the head has in its sums from link n on than the last records of the other list, modulo 4,294,967,296.
-pub fn sums_above(arena: &[u32], head: usize, cutc: &[usize], n: usize) -> u32
-    requires { ⌜ n ≤ 8 ⌝ }
-    requires { ⌜ Ends (now arena) head (now cutc) ⌝ }
-    ensures { λ d. ⌜ Above (now (arena .entry)) head (now (cutc .entry)) n 8 d ⌝ }
-{
-    let mut d = 0;
-    let mut k = n;
-    while k < 8 {
-        d = next_carry(arena, head, cutc[k], k, d);
-        k += 1;
-    }
-    d
-}
-
-// Changes p and adjusts of the front of a list, for it to follow the last records of another list: each true p, from the sums of these, is q more than it was from those of the head. The front has n links, and `cut` its last record with each.
-pub fn settle(arena: &mut [u32], head: usize, cut: &[usize], cutc: &[usize], n: usize, q: u32)
+// Changes p and adjusts of the front of a list, for it to follow the last records of another list: each true p, from the
+// sums of these, is q more than it was from those of the head. The front has n links, and `cut` its last record with each.
+// The sums of the head from link n up are d more than those of the last records.
+pub fn settle(
+    arena: &mut [u32],
+    head: usize,
+    cut: &[usize],
+    cutc: &[usize],
+    n: usize,
+    q: u32,
+    d: u32,
+)
     requires { ⌜ ((front : List ℕ) × (back : List ℕ) × Ready (now arena) head n (now cut) (now cutc) front back) ⌝ }
+    requires { ⌜ Above (now arena) head (now cutc) n 8 d ⌝ }
     ensures { λ _. ⌜ ((front : List ℕ) → (back : List ℕ) → Ready (now (arena .entry)) head n (now (cut .entry)) (now (cutc .entry)) front back → Settled (now (arena .entry)) (now (arena .exit)) head q (now (cutc .entry)) front) ⌝ }
 {
     let top = n - 1;
-    let mut carry = std::num::wrapping_add_u32(q, sums_above(arena, head, cutc, n));
+    let mut carry = std::num::wrapping_add_u32(q, d);
     let mut stop = wide(get(arena, cut[top], 3 + top));
     let mut i = n;
     while 0 < i {

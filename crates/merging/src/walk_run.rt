@@ -7,9 +7,10 @@ ghost use Rattle.arena.specs.Arena.{forward};
 ghost use Rattle.merging.specs.Cut.{front, passes, Searchable};
 ghost use Rattle.merging.specs.Walk.{Walked};
 ghost use Rattle.merging.specs.Advance.{behind, Movable, Moved};
+ghost use Rattle.merging.specs.Cached.{Cached};
+use crate::cache::sums_above;
 use crate::relink::relink_one;
 use crate::search::may_pass;
-use crate::settle::sums_above;
 use arena::words::get;
 use arena::words::raise;
 use arena::words::wide;
@@ -33,12 +34,22 @@ fn walk(arena: &mut [u32], head: usize, key: u32, v: u32) -> usize
 
 // Moves the records in front of a list, none of which has link 1, behind an open list. Their sums from link 1 up are
 // those of the head before and those of the ends after, and link 0 counts for no true p, so that all are raised alike.
-pub fn walk_run(arena: &mut [u32], head: usize, key: u32, q: u32, cutc: &mut [usize])
+pub fn walk_run(
+    arena: &mut [u32],
+    head: usize,
+    key: u32,
+    q: u32,
+    cutc: &mut [usize],
+    sums: &[u32],
+    lasts: &[u32],
+)
     requires { ⌜ ((hc : ℕ) × (cs : List ℕ) × (r : ℕ) × (rs : List ℕ) × Movable (now arena) head hc key cs r rs (now cutc)) ⌝ }
     requires { ⌜ passes (now arena) (forward (now arena) head 1) key ≡ false ⌝ }
+    requires { ⌜ Cached (now arena) head (now cutc) (now sums) (now lasts) ⌝ }
     ensures { λ _. ⌜ ((hc : ℕ) (cs : List ℕ) (r : ℕ) (rs : List ℕ) → Movable (now (arena .entry)) head hc key cs r rs (now (cutc .entry)) → Moved (now (arena .entry)) (now (arena .exit)) head hc q cs (front (now (arena .entry)) key (r ∷ rs)) (behind (now (arena .entry)) key (r ∷ rs)) (now (cutc .exit))) ⌝ }
+    ensures { λ _. ⌜ Cached (now (arena .exit)) head (now (cutc .exit)) (now (sums .entry)) (now (lasts .entry)) ⌝ }
 {
-    let v = std::num::wrapping_add_u32(q, sums_above(arena, head, cutc, 1));
+    let v = std::num::wrapping_add_u32(q, sums_above(sums, lasts, 1));
     let to = walk(arena, head, key, v);
     let sum = get(arena, to, 11);
     relink_one(arena, head, cutc[0], to, 0, sum);

@@ -1,60 +1,72 @@
 -- `merging::runs::merge_runs` meets its contract.
--- The loop keeps `Goes`, and its measure is the number of records that wait.
-use mathlib.Core.Path.{_≡_}
+-- The loop keeps `Goes`, whether both lists wait and that the sums kept are right; its measure is the number of records that wait.
+use mathlib.Core.Path.{_≡_, sym, _∙_}
+use native.Mathlib.Omega.{arith}
 use borrow.Author.Needs.{needs}
+use Rattle.merging.specs.Cached.{Kept}
 use Rattle.merging.specs.Running.{bothWait}
 use Rattle.merging.proofs.RunsLaws.{Goes, waiting, goes-start, goes-ready, goes-turn, goes-less, goes-done}
 use Rattle.merging.proofs.runs.merge_runs.Statement.{statement}
 use Rattle.merging.proofs.runs.merge_runs.Tie as tie
 
 abbrev Inv-loop : tie.InvT-loop
-Inv-loop arena₀ older newer ends₀ more₀ arena ends more = Goes arena₀ arena older newer ends₀ ends × (more ≡ bothWait arena older newer)
+Inv-loop arena₀ older newer ends₀ olders₀ newers₀ lasts₀ more₀ arena ends olders newers lasts more =
+    Goes arena₀ arena older newer ends₀ ends × (more ≡ bothWait arena older newer) × Kept arena older newer ends olders newers lasts
 
 abbrev μ-loop : tie.MeasureT-loop
-μ-loop arena₀ older newer ends₀ more₀ arena ends more = waiting arena older newer
+μ-loop arena₀ older newer ends₀ olders₀ newers₀ lasts₀ more₀ arena ends olders newers lasts more = waiting arena older newer
 
 both-wait-requires : tie.Need-both-wait-requires Inv-loop μ-loop
-both-wait-requires c κs =
-    search needs
+both-wait-requires c κs = search needs
 
 loop-holds : tie.Need-loop-holds Inv-loop μ-loop
-loop-holds c =
-    (goes-start _ _ _ _, c .both-wait .ensures)
+loop-holds c = (goes-start _ _ _ _, c .both-wait .ensures, c .before .before .before .before .before .before .before .pre .1)
 
 step-requires : tie.Need-step-requires Inv-loop μ-loop
 step-requires c κs =
-    goes-ready _ _ _ _ _ _ _ (c .before .before .before .loop .inv .0) (c .before .before .before .loop .inv .1) (c .before .before .loop-test .taken) (c .before .before .before .before .before .before .before .before .pre)
+    let at-loop-test = c .before .before .before .before .before in
+    let at-loop = at-loop-test .before in
+    (goes-ready _ _ _ _ _ _ _ (at-loop .loop .inv .0) (at-loop .loop .inv .1) (at-loop-test .loop-test .taken) (at-loop .before .before .before .before .before .before .before .before .pre .0), at-loop .loop .inv .2)
 
 both-wait-requires-2 : tie.Need-both-wait-requires-2 Inv-loop μ-loop
 both-wait-requires-2 c κs =
-    search needs
+    let lists = c .before .before .before .before .before .before .before .before .before .before .before .before .before .before .before .before .before .before .before .before .before .before .before .before .before .before .pre .0 .8 .runs .waits .lists in
+    let older = lists .older .linked .has in
+    let newer = lists .newer .linked .has in
+    let long = c .before .before .before .before .before .before .before .before .before .before .before .before .before .before .before .before .before .before .loop .inv .0 .length-kept in
+    (omega arith, omega arith)
 
 loop-less : tie.Need-loop-less Inv-loop μ-loop
 loop-less c =
-    let at-step = c .before .before .before .before .before .before in
-    let at-loop-test = at-step .before .before .before in
+    let at-step = c .before .before .before .before .before .before .before .before .before .before .before .before in
+    let at-loop-test = at-step .before .before .before .before .before .before in
     let at-loop = at-loop-test .before in
-    let entry = at-loop .before .before .before .before .before in
-    goes-less _ _ _ _ _ _ _ (at-loop .loop .inv .0) (at-loop .loop .inv .1) (at-loop-test .loop-test .taken) _ _ (at-step .step .ensures) (entry .pre)
+    goes-less _ _ _ _ _ _ _ (at-loop .loop .inv .0) (at-loop .loop .inv .1) (at-loop-test .loop-test .taken) _ _ (at-step .step .ensures .0) (at-loop .before .before .before .before .before .before .before .before .pre .0)
 
 loop-again : tie.Need-loop-again Inv-loop μ-loop
 loop-again c =
-    let at-step = c .before .before .before .before .before .before in
-    let at-loop-test = at-step .before .before .before in
+    let at-step = c .before .before .before .before .before .before .before .before .before .before .before .before in
+    let at-loop-test = at-step .before .before .before .before .before .before in
     let at-loop = at-loop-test .before in
-    (goes-turn _ _ _ _ _ _ _ (at-loop .loop .inv .0) (at-loop .loop .inv .1) (at-loop-test .loop-test .taken) _ _ (at-step .step .ensures) (search needs) (search needs), c .both-wait2 .ensures)
+    (goes-turn _ _ _ _ _ _ _ (at-loop .loop .inv .0) (at-loop .loop .inv .1) (at-loop-test .loop-test .taken) _ _ (at-step .step .ensures .0) (search needs) (search needs), c .both-wait2 .ensures, at-step .step .ensures .1)
 
 same-length : tie.Need-same-length Inv-loop μ-loop
-same-length c =
-    c .before .loop .inv .0 .length-kept
+same-length c = c .before .loop .inv .0 .length-kept
 
 same-length-2 : tie.Need-same-length-2 Inv-loop μ-loop
-same-length-2 c =
-    c .before .loop .inv .0 .ends-kept
+same-length-2 c = c .before .loop .inv .0 .ends-kept
+
+same-length-3 : tie.Need-same-length-3 Inv-loop μ-loop
+same-length-3 c = c .before .loop .inv .2 .older .nine ∙ sym (c .before .before .before .before .before .before .before .before .before .pre .1 .older .nine)
+
+same-length-4 : tie.Need-same-length-4 Inv-loop μ-loop
+same-length-4 c = c .before .loop .inv .2 .newer .nine ∙ sym (c .before .before .before .before .before .before .before .before .before .pre .1 .newer .nine)
+
+same-length-5 : tie.Need-same-length-5 Inv-loop μ-loop
+same-length-5 c = c .before .loop .inv .2 .ends .nine ∙ sym (c .before .before .before .before .before .before .before .before .before .pre .1 .ends .nine)
 
 returns : tie.Need-returns Inv-loop μ-loop
-returns c =
-    goes-done _ _ _ _ _ _ _ (c .before .loop .inv .0) (c .before .loop .inv .1) (c .loop-test .left)
+returns c = (goes-done _ _ _ _ _ _ _ (c .before .loop .inv .0) (c .before .loop .inv .1) (c .loop-test .left), c .before .loop .inv .2)
 
 pub merge-runs-spec : {M : Type 1} → statement M
 merge-runs-spec =
@@ -70,4 +82,7 @@ merge-runs-spec =
     loop-again
     same-length
     same-length-2
+    same-length-3
+    same-length-4
+    same-length-5
     returns)

@@ -14,31 +14,28 @@ use Rattle.merging.proofs.settle.settle.Statement.{statement}
 use Rattle.merging.proofs.settle.settle.Tie as tie
 
 abbrev Inv-loop : tie.InvT-loop
-Inv-loop arena₀ head cut cutc n q top carry₀ stop₀ i₀ arena carry stop i = Settling arena₀ arena head n i carry stop q cut cutc
+Inv-loop arena₀ head cut cutc n q d top carry₀ stop₀ i₀ arena carry stop i = Settling arena₀ arena head n i carry stop q cut cutc
 
 abbrev μ-loop : tie.MeasureT-loop
-μ-loop arena₀ head cut cutc n q top carry₀ stop₀ i₀ arena carry stop i = i
+μ-loop arena₀ head cut cutc n q d top carry₀ stop₀ i₀ arena carry stop i = i
 
 -- What a turn of the loop knows of its arena: the function's entry, that the arena has the head and the record to follow at this link, and that the records to raise are chained.
 module _ (c : tie.In-loop Inv-loop μ-loop) where
   abbrev entry : tie.Start Inv-loop μ-loop
-  entry = c .before .before .before .before .before .before .before .before .before .before .before .before
+  entry = c .before .before .before .before .before .before .before .before .before .before
 
   head-in : Has (c .before .loop .arena) (entry .args .head)
-  head-in = heads-has _ _ _ _ _ _ _ _ _ _ (c .before .loop .inv) (c .loop-test .taken) _ _ (entry .pre .2)
+  head-in = heads-has _ _ _ _ _ _ _ _ _ _ (c .before .loop .inv) (c .loop-test .taken) _ _ (entry .pre .0 .2)
 
   last-in : Has (c .before .loop .arena) (getD (entry .args .cutc .now) (c .before .loop .i - 1) 0)
-  last-in = lasts-has _ _ _ _ _ _ _ _ _ _ (c .before .loop .inv) (c .loop-test .taken) _ _ (entry .pre .2)
+  last-in = lasts-has _ _ _ _ _ _ _ _ _ _ (c .before .loop .inv) (c .loop-test .taken) _ _ (entry .pre .0 .2)
 
   chained : (first : ℕ) → first ≡ word (c .before .loop .arena) (entry .args .head) (3 + (c .before .loop .i - 1)) → (rs : List ℕ) × Chained (c .before .loop .arena) (c .before .loop .i - 1) first (c .before .loop .stop) rs
   chained first e =
-      (_, settling-chained _ _ _ _ _ _ _ _ _ _ (c .before .loop .inv) (c .loop-test .taken) _ _ (entry .pre .2) first e)
+      (_, settling-chained _ _ _ _ _ _ _ _ _ _ (c .before .loop .inv) (c .loop-test .taken) _ _ (entry .pre .0 .2) first e)
 
 sub-top : tie.Need-sub-top Inv-loop μ-loop
 sub-top c = search needs
-
-sums-above-requires : tie.Need-sums-above-requires Inv-loop μ-loop
-sums-above-requires c κs = (c .before .before .before .before .pre .2 .most, c .before .before .before .before .pre .2 .ends)
 
 wrapping-add-u32-requires : tie.Need-wrapping-add-u32-requires Inv-loop μ-loop
 wrapping-add-u32-requires c κs = search needs
@@ -53,13 +50,13 @@ add-get : tie.Need-add-get Inv-loop μ-loop
 add-get c = search needs
 
 get-requires : tie.Need-get-requires Inv-loop μ-loop
-get-requires c κs = (ready-cut _ _ _ _ _ _ _ (c .before .before .before .before .before .before .before .before .pre .2), search needs)
+get-requires c κs = (ready-cut _ _ _ _ _ _ _ (c .before .before .before .before .before .before .pre .0 .2), search needs)
 
 wide-requires : tie.Need-wide-requires Inv-loop μ-loop
 wide-requires c κs = search needs
 
 loop-holds : tie.Need-loop-holds Inv-loop μ-loop
-loop-holds c = settling-start _ _ _ _ _ _ _ _ _ (c .before .before .before .before .before .sums-above .ensures) (c .before .before .before .before .wrapping-add-u32 .ensures) (c .wide .ensures ∙ c .before .get .ensures)
+loop-holds c = settling-start _ _ _ _ _ _ _ _ _ (c .before .before .before .before .before .before .before .before .pre .1) (c .before .before .before .before .wrapping-add-u32 .ensures) (c .wide .ensures ∙ c .before .get .ensures)
 
 sub-k : tie.Need-sub-k Inv-loop μ-loop
 sub-k c = search needs
@@ -113,7 +110,6 @@ settle-spec =
     Inv-loop
     μ-loop
     sub-top
-    sums-above-requires
     wrapping-add-u32-requires
     mul-get
     shared-slice-read-get

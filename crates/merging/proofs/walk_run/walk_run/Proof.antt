@@ -2,14 +2,12 @@
 -- The walk settles the front, and `RunLaws` puts it together with the one link that is changed.
 use mathlib.Core.List.{_∷_}
 use borrow.Author.Needs.{needs}
-use Rattle.merging.proofs.RunLaws.{run-ends, run-has, run-moved}
+use Rattle.merging.proofs.RunLaws.{run-has, run-moved, run-cached}
 use Rattle.merging.proofs.walk_run.walk_run.Statement.{statement}
 use Rattle.merging.proofs.walk_run.walk_run.Tie as tie
 
 sums-above-requires : tie.Need-sums-above-requires
-sums-above-requires c κs =
-    let p = c .before .before .before .before .pre .0 in
-    (search needs, run-ends _ _ (p .0) _ (p .1) (p .2) (p .3) _ (p .4))
+sums-above-requires c κs = search needs
 
 wrapping-add-u32-requires : tie.Need-wrapping-add-u32-requires
 wrapping-add-u32-requires c κs = search needs
@@ -24,7 +22,7 @@ get-requires c κs =
     let at-sums-above = at-wrapping-add .before in
     let entry = at-sums-above .before .before .before .before .before in
     let p = entry .pre .0 in
-    (run-has _ _ (p .0) _ (p .1) (p .2) (p .3) _ (p .4) (entry .pre .1) _ _ _ (at-sums-above .sums-above .ensures) (at-wrapping-add .wrapping-add-u32 .ensures) _ _ (at-walk .walk .ensures (p .2 ∷ p .3) (p .4 .list)) .2, search needs)
+    (run-has _ _ (p .0) _ (p .1) (p .2) (p .3) _ (p .4) (entry .pre .1 .0) _ _ _ (at-sums-above .sums-above .ensures _ _ (entry .pre .1 .1 .head) (entry .pre .1 .1 .ends)) (at-wrapping-add .wrapping-add-u32 .ensures) _ _ (at-walk .walk .ensures (p .2 ∷ p .3) (p .4 .list)) .2, search needs)
 
 slice-read-relink-one : tie.Need-slice-read-relink-one
 slice-read-relink-one c = search needs
@@ -36,7 +34,7 @@ relink-one-requires c κs =
     let at-sums-above = at-wrapping-add .before in
     let entry = at-sums-above .before .before .before .before .before in
     let p = entry .pre .0 in
-    let has = run-has _ _ (p .0) _ (p .1) (p .2) (p .3) _ (p .4) (entry .pre .1) _ _ _ (at-sums-above .sums-above .ensures) (at-wrapping-add .wrapping-add-u32 .ensures) _ _ (at-walk .walk .ensures (p .2 ∷ p .3) (p .4 .list)) in
+    let has = run-has _ _ (p .0) _ (p .1) (p .2) (p .3) _ (p .4) (entry .pre .1 .0) _ _ _ (at-sums-above .sums-above .ensures _ _ (entry .pre .1 .1 .head) (entry .pre .1 .1 .ends)) (at-wrapping-add .wrapping-add-u32 .ensures) _ _ (at-walk .walk .ensures (p .2 ∷ p .3) (p .4 .list)) in
     (search needs, has .0, has .1, has .2)
 
 slice-write-cutc : tie.Need-slice-write-cutc
@@ -49,14 +47,18 @@ same-length-2 : tie.Need-same-length-2
 same-length-2 c = search needs
 
 returns : tie.Need-returns
-returns c hc cs r rs w =
+returns c =
     let at-relink-one = c .before .before in
     let at-get = at-relink-one .before .before .before in
     let at-walk = at-get .before .before .before .before in
     let at-wrapping-add = at-walk .before .before in
     let at-sums-above = at-wrapping-add .before in
     let entry = at-sums-above .before .before .before .before .before in
-    run-moved _ _ hc _ cs r rs _ w (entry .pre .1) _ _ _ (at-sums-above .sums-above .ensures) (at-wrapping-add .wrapping-add-u32 .ensures) _ _ (at-walk .walk .ensures (r ∷ rs) (w .list)) _ (at-get .get .ensures) _ (at-relink-one .relink-one .ensures)
+    let p = entry .pre .0 in (
+      λ hc cs r rs w.
+          run-moved _ _ hc _ cs r rs _ w (entry .pre .1 .0) _ _ _ (at-sums-above .sums-above .ensures _ _ (entry .pre .1 .1 .head) (entry .pre .1 .1 .ends)) (at-wrapping-add .wrapping-add-u32 .ensures) _ _ (at-walk .walk .ensures (r ∷ rs) (w .list)) _ (at-get .get .ensures) _ (at-relink-one .relink-one .ensures),
+      run-cached _ _ (p .0) _ (p .1) (p .2) (p .3) _ (p .4) (entry .pre .1 .0) _ _ _ (at-sums-above .sums-above .ensures _ _ (entry .pre .1 .1 .head) (entry .pre .1 .1 .ends)) (at-wrapping-add .wrapping-add-u32 .ensures) _ _ (at-walk .walk .ensures (p .2 ∷ p .3) (p .4 .list)) _ (at-get .get .ensures) _ (at-relink-one .relink-one .ensures) _ _ (entry .pre .1 .1),
+    )
 
 pub walk-run-spec : {M : Type 1} → statement M
 walk-run-spec =
