@@ -4,14 +4,13 @@ use mathlib.Core.Path.{_≡_, refl, sym, ap, subst, _∙_}
 use mathlib.Core.List.{List, [], _∷_, reverseAux}
 use Prim.Native.Nat.{ℕ, _+_, _*_, _%_, _^_, _<_}
 use native.Mathlib.Omega.{arith}
-use lib.ListN.{length, getD, replicate}
+use lib.ListN.{length, getD}
 use Rattle.arena.specs.Arena.{stride, word, level, mWord, adjust}
 use Rattle.arena.specs.Chain.{Has, All, Linked, after, trues, Same}
 use Rattle.arena.specs.Building.{Cleared}
-use Rattle.arena.specs.Turning.{Suffixes, Summable, turned1, Turnable1, Turnable, Turned}
+use Rattle.arena.specs.Turning.{Suffixes, Enterable, turned1, Turnable1, Turnable, Turned}
 use Rattle.arena.proofs.PutLaws.{same-trans}
 use Rattle.arena.proofs.Frames.{all-map, all-refl, all-both, map-same, same-shape, same-value, linked-frame, trues-frame}
-use Rattle.arena.proofs.Summing.{suffixes-head}
 use Rattle.arena.proofs.Walking.{count, next-none, next-first, count-is, one-list}
 use Rattle.arena.proofs.Turns.{Moved, Ready, moved-none, ready-more, moved-more}
 
@@ -28,10 +27,8 @@ module _ (a : List ℕ) (from to : ℕ) (rs b : List ℕ) (t : Turnable a from t
       linked-frame a b from rs (cleared .long) (same-shape a b from head-same)
       (all-map rs (same-shape a b) rest-same) (t .linked)
 
-  pub cleared-summable : (sums : List ℕ) → length sums ≡ 9 → Summable b from sums
-  cleared-summable sums e =
-      let top = linked-cleared .top in
-      record { has = linked-cleared .has; low = omega arith; high = omega arith; nine = e }
+  pub cleared-enterable : (sums : List ℕ) → length sums ≡ 9 → getD sums 8 0 ≡ 0 → Enterable b from sums
+  cleared-enterable sums e none = record { has = linked-cleared .has; nine = e; none = none }
 
 -- The arena a is that with the new head cleared. Of its list rs of the old head the records qs are left, and the words hold the sums f that lead to them.
 pub record Turning (a : List ℕ) (from to : ℕ) (b sums : List ℕ) (next : ℕ) : Type 0 where
@@ -46,8 +43,8 @@ pub record Turning (a : List ℕ) (from to : ℕ) (b sums : List ℕ) (next : �
   pub long : length b ≡ length a
   pub fits : next < 4_294_967_296
 
-pub turning-start : (a : List ℕ) (from to : ℕ) (b sums : List ℕ) (next : ℕ) → (rs : List ℕ) × Turnable a from to rs → Cleared a to b → ((f : ℕ → ℕ) → Suffixes f (replicate 9 0) → Suffixes (after b f from) sums) → next ≡ word b from 3 → next < 4_294_967_296 → Turning b from to b sums next
-turning-start a from to b sums next (rs, t) cleared passed e fits =
+pub turning-start : (a : List ℕ) (from to : ℕ) (b sums : List ℕ) (next : ℕ) → (rs : List ℕ) × Turnable a from to rs → Cleared a to b → Suffixes (adjust b from) sums → next ≡ word b from 3 → next < 4_294_967_296 → Turning b from to b sums next
+turning-start a from to b sums next (rs, t) cleared entered e fits =
     let linked = linked-cleared a from to rs b t cleared in
     let top = linked .top in
     record {
@@ -65,7 +62,7 @@ turning-start a from to b sums next (rs, t) cleared passed e fits =
             cross = all-refl rs (λ x. tt);
           };
       f = adjust b from;
-      suffixes = suffixes-head b from sums top passed;
+      suffixes = entered;
       rest = λ c m. m;
       long = refl;
       fits = fits;

@@ -20,6 +20,12 @@ pub record Summable (a : List ℕ) (r : ℕ) (sums : List ℕ) : Type 0 where
   pub high : level a r ≤ 8
   pub nine : length sums ≡ 9
 
+-- A head, and nine sums of which that over no link is 0.
+pub record Enterable (a : List ℕ) (h : ℕ) (sums : List ℕ) : Type 0 where
+  pub has : Has a h
+  pub nine : length sums ≡ 9
+  pub none : getD sums 8 0 ≡ 0
+
 -- Record r with its true p as m and its m as p.
 unfoldable pub swapped : List ℕ → (ℕ → ℕ) → ℕ → List ℕ
 swapped a f r = put (put a r 1 (pUnder a f r)) r 2 (mWord a r)

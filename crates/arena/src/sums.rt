@@ -2,8 +2,9 @@
 // as sums from a link up, so that a true p is one addition.
 ghost use mathlib.Core.Path.{_≡_};
 ghost use Prim.Native.Nat.{ℕ};
+ghost use Rattle.arena.specs.Arena.{adjust};
 ghost use Rattle.arena.specs.Chain.{pUnder, after};
-ghost use Rattle.arena.specs.Turning.{Summable, Suffixes};
+ghost use Rattle.arena.specs.Turning.{Summable, Enterable, Suffixes};
 use crate::words::get;
 use crate::words::wide;
 
@@ -14,6 +15,20 @@ pub fn true_p(arena: &[u32], r: usize, sums: &[u32]) -> u32
 {
     let level = wide(get(arena, r, 0));
     std::num::wrapping_add_u32(get(arena, r, 2), sums[level])
+}
+
+// Makes the sums those of a head, with which a walk enters its list. A head has every link, so that none of its words but
+// the adjusts is read.
+pub fn enter(arena: &[u32], head: usize, sums: &mut [u32])
+    requires { ⌜ Enterable (now arena) head (now sums) ⌝ }
+    ensures { λ _. ⌜ Suffixes (adjust (now (arena .entry)) head) (now (sums .exit)) ⌝ }
+{
+    let mut l = 8;
+    while 1 < l {
+        let k = l - 1;
+        sums[k] = std::num::wrapping_add_u32(sums[l], get(arena, head, 11 + k));
+        l = k;
+    }
 }
 
 // Renews the sums below a record's level by its adjusts, as the walk passes it. Link 0 counts for no true p, and no sum

@@ -6,6 +6,7 @@ ghost use Rattle.arena.specs.Chain.{after};
 ghost use Rattle.arena.specs.Turning.{Suffixes, turned1, Turnable1, Turnable, Turned};
 use crate::empty::clear_head;
 use crate::prepend::prepend;
+use crate::sums::enter;
 use crate::sums::pass;
 use crate::sums::true_p;
 use crate::words::get;
@@ -33,7 +34,7 @@ pub fn turn(arena: &mut [u32], from: usize, to: usize)
 {
     clear_head(arena, to);
     let mut sums = [0u32; 9];
-    pass(arena, from, &mut sums);
+    enter(arena, from, &mut sums);
     let mut next = get(arena, from, 3);
     while next != 0 {
         let r = wide(next);

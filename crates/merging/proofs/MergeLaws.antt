@@ -8,11 +8,11 @@ use lib.ListN.{length, replicate, getD-replicate}
 use Rattle.slicing.specs.Item.{Item, size}
 use Rattle.slicing.specs.Good.{Ordered}
 use Rattle.slicing.specs.Recorded.{Recorded, mergeRecorded, items}
-use Rattle.arena.specs.Arena.{level, mWord, adjust}
+use Rattle.arena.specs.Arena.{mWord, adjust}
 use Rattle.arena.specs.Lazy.{held}
 use Rattle.arena.specs.Chain.{All, Away, Linked, Same, pUnder, after, trues}
 use Rattle.arena.specs.Building.{Cleared}
-use Rattle.arena.specs.Turning.{Suffixes, Summable}
+use Rattle.arena.specs.Turning.{Suffixes, Enterable}
 use Rattle.arena.proofs.Frames.{all-map, all-both, all-refl, same-shape, linked-frame, trues-frame}
 use Rattle.arena.proofs.PutLaws.{same-trans}
 use Rattle.merging.specs.Carried.{carried}
@@ -23,7 +23,7 @@ use Rattle.merging.specs.Cached.{Kept}
 use Rattle.merging.specs.Trio.{Trio}
 use Rattle.merging.specs.Running.{Merging, Finished, RunsReady, RunsDone}
 use Rattle.merging.specs.Merge.{Mergeable, Merged}
-use Rattle.arena.proofs.Summing.{suffixes-none, suffixes-head}
+use Rattle.arena.proofs.Summing.{suffixes-none}
 use Rattle.merging.proofs.CacheLaws.{suffixes-agree}
 use Rattle.merging.proofs.OpenLaws.{open-empty, ends-filled}
 use Rattle.merging.proofs.CarriedLaws.{carried-frame, carried-same}
@@ -168,24 +168,23 @@ module _ (a b : List ℕ) (ho hn hc : ℕ) (c : Cleared a hc b) where
       (b, hc, p .0, p .1, p .0, p .1, [], whole a b ho hn hc (p .0) (p .1) (p .2) c, begins a b ho hn hc (p .0) (p .1) (p .2) c)
 
   -- The sums kept at the start: those of the two heads, and none of the result's head.
-  head-summable : (h : ℕ) (rs zeros : List ℕ) → (h ≡ hc → ⊥) → Linked a h rs → length zeros ≡ 9 → Summable b h zeros
-  head-summable h rs zeros apart l nine =
+  head-enterable : (h : ℕ) (rs : List ℕ) → Linked a h rs → Enterable b h (replicate 9 0)
+  head-enterable h rs l =
       let long = c .long in
       let has = l .has in
-      let top : level b h ≡ 8 = c .outside h apart .at 0 (omega arith) ∙ l .top in
-      record { has = omega arith; low = omega arith; high = omega arith; nine = nine }
+      record { has = omega arith; nine = refl; none = refl }
 
-  pub older-summable : ((xs : List ℕ) × (ys : List ℕ) × Mergeable a ho hn hc xs ys) → (zeros : List ℕ) → length zeros ≡ 9 → Summable b ho zeros
-  older-summable p zeros nine = head-summable ho (p .0) zeros (p .2 .older-result) (p .2 .older) nine
+  pub older-enterable : ((xs : List ℕ) × (ys : List ℕ) × Mergeable a ho hn hc xs ys) → Enterable b ho (replicate 9 0)
+  older-enterable p = head-enterable ho (p .0) (p .2 .older)
 
-  pub newer-summable : ((xs : List ℕ) × (ys : List ℕ) × Mergeable a ho hn hc xs ys) → (zeros : List ℕ) → length zeros ≡ 9 → Summable b hn zeros
-  newer-summable p zeros nine = head-summable hn (p .1) zeros (p .2 .newer-result) (p .2 .newer) nine
+  pub newer-enterable : ((xs : List ℕ) × (ys : List ℕ) × Mergeable a ho hn hc xs ys) → Enterable b hn (replicate 9 0)
+  newer-enterable p = head-enterable hn (p .1) (p .2 .newer)
 
-  pub merge-kept : ((xs : List ℕ) × (ys : List ℕ) × Mergeable a ho hn hc xs ys) → (olders newers : List ℕ) → ((f : ℕ → ℕ) → Suffixes f (replicate 9 0) → Suffixes (after b f ho) olders) → ((f : ℕ → ℕ) → Suffixes f (replicate 9 0) → Suffixes (after b f hn) newers) → Kept b ho hn (replicate 8 hc) olders newers (replicate 9 0)
-  merge-kept p olders newers older newer =
+  pub merge-kept : (olders newers : List ℕ) → Suffixes (adjust b ho) olders → Suffixes (adjust b hn) newers → Kept b ho hn (replicate 8 hc) olders newers (replicate 9 0)
+  merge-kept olders newers older newer =
       record {
-        older = suffixes-head b ho olders (c .outside ho (p .2 .older-result) .at 0 (omega arith) ∙ p .2 .older .top) older;
-        newer = suffixes-head b hn newers (c .outside hn (p .2 .newer-result) .at 0 (omega arith) ∙ p .2 .newer .top) newer;
+        older = older;
+        newer = newer;
         ends =
             suffixes-agree (λ k. 0) (lastSums b (replicate 8 hc)) (replicate 9 0)
             (λ k low high. ap (λ (x : ℕ). adjust b x k) (getD-replicate 8 k hc 0 high) ∙ c .built .still k high)

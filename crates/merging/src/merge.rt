@@ -5,7 +5,7 @@ ghost use Rattle.merging.specs.Merge.{Mergeable, Merged};
 use crate::close::close;
 use crate::runs::merge_runs;
 use arena::empty::clear_head;
-use arena::sums::pass;
+use arena::sums::enter;
 
 // Makes the list of a third head the merge of the lists of two heads: whole runs of records change lists at once, and
 // an adjust raises all that it covers. The sums of the heads and of the ends are kept beside the arena. The two heads are
@@ -19,8 +19,8 @@ pub fn merge(arena: &mut [u32], older: usize, newer: usize, result: usize)
     let mut olders = [0u32; 9];
     let mut newers = [0u32; 9];
     let mut lasts = [0u32; 9];
-    pass(arena, older, &mut olders);
-    pass(arena, newer, &mut newers);
+    enter(arena, older, &mut olders);
+    enter(arena, newer, &mut newers);
     merge_runs(
         arena,
         older,

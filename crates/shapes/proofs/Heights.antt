@@ -4,15 +4,14 @@ use mathlib.Core.Path.{_≡_, refl, sym, ap, ap₂, _∙_}
 use mathlib.Core.List.{List, [], _∷_}
 use Prim.Native.Nat.{ℕ, _+_, _*_, _/_, _≤_}
 use native.Mathlib.Omega.{arith}
-use lib.ListN.{length, replicate}
+use lib.ListN.{length, getD}
 use lib.Seq.{sets}
 use Rattle.slicing.specs.Item.{Item}
 use Rattle.slicing.specs.Recorded.{items}
 use Rattle.arena.specs.Arena.{word, adjust}
 use Rattle.arena.specs.Lazy.{held}
 use Rattle.arena.specs.Chain.{pUnder, after, trues}
-use Rattle.arena.specs.Turning.{Suffixes, Summable}
-use Rattle.arena.proofs.Summing.{suffixes-head}
+use Rattle.arena.specs.Turning.{Suffixes, Summable, Enterable}
 use Rattle.merging.specs.Carried.{carried}
 use Rattle.shapes.specs.Listing.{listWords, writtenOver}
 use Rattle.shapes.specs.Writing.{Listable, itemAt}
@@ -33,17 +32,15 @@ abbrev pub Heights : List ℕ → ℕ → List ℕ → List ℕ → List ℕ →
 Heights a h old out sums next at = Walk a h next (Onward a h old out sums at)
 
 -- The sums can be entered at the head.
-pub head-summable : (a : List ℕ) (h : ℕ) (out zeros : List ℕ) → (rs : List ℕ) × Listable a h rs out → length zeros ≡ 9 → Summable a h zeros
-head-summable a h out zeros (rs, t) e =
-    let top = t .linked .top in
-    record { has = t .linked .has; low = omega arith; high = omega arith; nine = e }
+pub head-enterable : (a : List ℕ) (h : ℕ) (out zeros : List ℕ) → (rs : List ℕ) × Listable a h rs out → length zeros ≡ 9 → getD zeros 8 0 ≡ 0 → Enterable a h zeros
+head-enterable a h out zeros (rs, t) e none = record { has = t .linked .has; nine = e; none = none }
 
-pub heights-start : (a : List ℕ) (h : ℕ) (out sums : List ℕ) (next : ℕ) → (rs : List ℕ) × Listable a h rs out → ((f : ℕ → ℕ) → Suffixes f (replicate 9 0) → Suffixes (after a f h) sums) → next ≡ word a h 3 → Heights a h out out sums next 0
-heights-start a h out sums next (rs, t) passed e =
+pub heights-start : (a : List ℕ) (h : ℕ) (out sums : List ℕ) (next : ℕ) → (rs : List ℕ) × Listable a h rs out → Suffixes (adjust a h) sums → next ≡ word a h 3 → Heights a h out out sums next 0
+heights-start a h out sums next (rs, t) entered e =
     walk-start a h rs next (Onward a h out out sums 0) (t .linked) (t .few) e
     (record {
       f = adjust a h;
-      suffixes = suffixes-head a h sums (t .linked .top) passed;
+      suffixes = entered;
       long = refl;
       room = t .room;
       place = omega arith;

@@ -4,7 +4,7 @@ use mathlib.Core.Path.{_≡_, refl, sym, ap, ap₂, _∙_}
 use mathlib.Core.List.{List, [], _∷_, _++_}
 use Prim.Native.Nat.{ℕ, _+_, _*_, _-_, _≤_}
 use native.Mathlib.Omega.{arith}
-use lib.ListN.{length, replicate}
+use lib.ListN.{length}
 use Rattle.slicing.specs.Item.{Item, size}
 use Rattle.slicing.specs.Recorded.{items}
 use Rattle.slicing.specs.Merge.{turn}
@@ -13,7 +13,6 @@ use Rattle.arena.specs.Arena.{word, mWord, adjust}
 use Rattle.arena.specs.Lazy.{held}
 use Rattle.arena.specs.Chain.{pUnder, after, trues}
 use Rattle.arena.specs.Turning.{Suffixes, Summable}
-use Rattle.arena.proofs.Summing.{suffixes-head}
 use Rattle.merging.specs.Carried.{carried}
 use Rattle.shapes.specs.Listing.{listWords, writtenOver}
 use Rattle.shapes.specs.Writing.{Countable, Listable, itemAt}
@@ -49,14 +48,14 @@ counted-room a h out n (rs, t) counted =
     let room = t .room in
     omega arith
 
-pub widths-start : (a : List ℕ) (h : ℕ) (out sums : List ℕ) (next n : ℕ) → (rs : List ℕ) × Listable a h rs out → ((rs : List ℕ) → Countable a h rs → n ≡ length rs) → ((f : ℕ → ℕ) → Suffixes f (replicate 9 0) → Suffixes (after a f h) sums) → next ≡ word a h 3 → Widths a h out out sums next (2 * n)
-widths-start a h out sums next n (rs, t) counted passed e =
+pub widths-start : (a : List ℕ) (h : ℕ) (out sums : List ℕ) (next n : ℕ) → (rs : List ℕ) × Listable a h rs out → ((rs : List ℕ) → Countable a h rs → n ≡ length rs) → Suffixes (adjust a h) sums → next ≡ word a h 3 → Widths a h out out sums next (2 * n)
+widths-start a h out sums next n (rs, t) counted entered e =
     let many = counted rs (countable a h rs out t) in
     let fits = t .room in
     walk-start a h rs next (Backward a h out out sums (2 * n)) (t .linked) (t .few) e
     (record {
       f = adjust a h;
-      suffixes = suffixes-head a h sums (t .linked .top) passed;
+      suffixes = entered;
       long = refl;
       room = omega arith;
       place = omega arith;

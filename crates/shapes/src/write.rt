@@ -8,6 +8,7 @@ ghost use Rattle.slicing.specs.Merge.{turn};
 ghost use Rattle.arena.specs.Lazy.{held};
 ghost use Rattle.shapes.specs.Listing.{listWords, writtenOver};
 ghost use Rattle.shapes.specs.Writing.{Countable, Listable, itemAt};
+use arena::sums::enter;
 use arena::sums::pass;
 use arena::sums::true_p;
 use arena::words::get;
@@ -42,7 +43,7 @@ pub fn write_by_height(arena: &[u32], head: usize, output: &mut [u32]) -> usize
     ensures { λ r. ⌜ ((rs : List ℕ) → Listable (now (arena .entry)) head rs (now (output .entry)) → (r ≡ length rs) × (now (output .exit) ≡ writtenOver (listWords (items (held (now (arena .entry)) head [] rs))) (now (output .entry)))) ⌝ }
 {
     let mut sums = [0u32; 9];
-    pass(arena, head, &mut sums);
+    enter(arena, head, &mut sums);
     let mut next = get(arena, head, 3);
     let mut at = 0;
     while next != 0 {
@@ -65,7 +66,7 @@ pub fn write_by_width(arena: &[u32], head: usize, output: &mut [u32]) -> usize
 {
     let count = count_items(arena, head);
     let mut sums = [0u32; 9];
-    pass(arena, head, &mut sums);
+    enter(arena, head, &mut sums);
     let mut next = get(arena, head, 3);
     let mut at = 2 * count;
     while next != 0 {

@@ -2,7 +2,7 @@
 -- The loop keeps `Turning`, that all records are turned if those left are; the measure is their number, counted along the first link.
 use borrow.Author.Needs.{needs}
 use Rattle.arena.proofs.Walking.{count}
-use Rattle.arena.proofs.TurnWalk.{Turning, cleared-summable, turning-start, turning-has, turning-can, turning-less, turning-more, turning-done}
+use Rattle.arena.proofs.TurnWalk.{Turning, cleared-enterable, turning-start, turning-has, turning-can, turning-less, turning-more, turning-done}
 use Rattle.arena.proofs.turn.turn.Statement.{statement}
 use Rattle.arena.proofs.turn.turn.Tie as tie
 
@@ -15,21 +15,21 @@ abbrev μ-loop : tie.MeasureT-loop
 clear-head-requires : tie.Need-clear-head-requires Inv-loop μ-loop
 clear-head-requires c κs = search needs
 
-slice-aggregate-pass : tie.Need-slice-aggregate-pass Inv-loop μ-loop
-slice-aggregate-pass c = search needs
+slice-aggregate-enter : tie.Need-slice-aggregate-enter Inv-loop μ-loop
+slice-aggregate-enter c = search needs
 
-pass-requires : tie.Need-pass-requires Inv-loop μ-loop
-pass-requires c κs = search (needs, cleared-summable)
+enter-requires : tie.Need-enter-requires Inv-loop μ-loop
+enter-requires c κs = search (needs, cleared-enterable)
 
 get-requires : tie.Need-get-requires Inv-loop μ-loop
 get-requires c κs = search needs
 
 loop-holds : tie.Need-loop-holds Inv-loop μ-loop
 loop-holds c =
-    let at-pass = c .before .before .before in
-    let at-clear-head = at-pass .before .before .before .before .before in
+    let at-enter = c .before .before .before in
+    let at-clear-head = at-enter .before .before .before .before .before in
     let entry = at-clear-head .before .before .before in
-    turning-start _ _ _ _ _ _ (entry .pre) (at-clear-head .clear-head .ensures) (at-pass .pass .ensures) (c .get .ensures) (search needs)
+    turning-start _ _ _ _ _ _ (entry .pre) (at-clear-head .clear-head .ensures) (at-enter .enter .ensures) (c .get .ensures) (search needs)
 
 wide-requires : tie.Need-wide-requires Inv-loop μ-loop
 wide-requires c κs = search needs
@@ -69,8 +69,8 @@ turn-spec =
     Inv-loop
     μ-loop
     clear-head-requires
-    slice-aggregate-pass
-    pass-requires
+    slice-aggregate-enter
+    enter-requires
     get-requires
     loop-holds
     wide-requires

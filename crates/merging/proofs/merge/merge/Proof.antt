@@ -1,25 +1,24 @@
 -- `merging::merge::merge` meets its contract.
 -- The cleared result and the two lists are a merge on its way, with the sums of their heads kept, and closing gives its result.
-use mathlib.Core.Path.{refl}
 use borrow.Author.Needs.{needs}
-use Rattle.merging.proofs.MergeLaws.{merge-ready, older-summable, newer-summable, merge-kept, merge-closes, merge-done}
+use Rattle.merging.proofs.MergeLaws.{merge-ready, older-enterable, newer-enterable, merge-kept, merge-closes, merge-done}
 use Rattle.merging.proofs.merge.merge.Statement.{statement}
 use Rattle.merging.proofs.merge.merge.Tie as tie
 
 clear-head-requires : tie.Need-clear-head-requires
 clear-head-requires c κs = search needs
 
-slice-aggregate-pass : tie.Need-slice-aggregate-pass
-slice-aggregate-pass c = search needs
+slice-aggregate-enter : tie.Need-slice-aggregate-enter
+slice-aggregate-enter c = search needs
 
-pass-requires : tie.Need-pass-requires
-pass-requires c κs = older-summable _ _ _ _ _ (c .before .before .before .before .clear-head .ensures) (c .before .before .before .before .before .before .before .pre) _ refl
+enter-requires : tie.Need-enter-requires
+enter-requires c κs = older-enterable _ _ _ _ _ (c .before .before .before .before .clear-head .ensures) (c .before .before .before .before .before .before .before .pre)
 
-slice-aggregate-pass-2 : tie.Need-slice-aggregate-pass-2
-slice-aggregate-pass-2 c = search needs
+slice-aggregate-enter-2 : tie.Need-slice-aggregate-enter-2
+slice-aggregate-enter-2 c = search needs
 
-pass-requires-2 : tie.Need-pass-requires-2
-pass-requires-2 c κs = newer-summable _ _ _ _ _ (c .before .before .before .before .before .before .before .before .clear-head .ensures) (c .before .before .before .before .before .before .before .before .before .before .before .pre) _ refl
+enter-requires-2 : tie.Need-enter-requires-2
+enter-requires-2 c κs = newer-enterable _ _ _ _ _ (c .before .before .before .before .before .before .before .before .clear-head .ensures) (c .before .before .before .before .before .before .before .before .before .before .before .pre)
 
 slice-aggregate-merge-runs : tie.Need-slice-aggregate-merge-runs
 slice-aggregate-merge-runs c = search needs
@@ -37,7 +36,7 @@ merge-runs-requires : tie.Need-merge-runs-requires
 merge-runs-requires c κs =
     let at-clear-head = c .before .before .before .before .before .before .before .before .before .before .before .before .before .before .before in
     let entry = c .before .before .before .before .before .before .before .before .before .before .before .before .before .before .before .before .before .before in
-    (merge-ready _ _ _ _ _ (at-clear-head .clear-head .ensures) (entry .pre), merge-kept _ _ _ _ _ (at-clear-head .clear-head .ensures) (entry .pre) _ _ (c .before .before .before .before .before .before .before .before .before .before .pass .ensures) (c .before .before .before .before .before .before .pass2 .ensures))
+    (merge-ready _ _ _ _ _ (at-clear-head .clear-head .ensures) (entry .pre), merge-kept _ _ _ _ _ (at-clear-head .clear-head .ensures) _ _ (c .before .before .before .before .before .before .before .before .before .before .enter .ensures) (c .before .before .before .before .before .before .enter2 .ensures))
 
 slice-aggregate-close : tie.Need-slice-aggregate-close
 slice-aggregate-close c = search needs
@@ -56,10 +55,10 @@ merge-spec =
     tie.close
     (tie.spec
     clear-head-requires
-    slice-aggregate-pass
-    pass-requires
-    slice-aggregate-pass-2
-    pass-requires-2
+    slice-aggregate-enter
+    enter-requires
+    slice-aggregate-enter-2
+    enter-requires-2
     slice-aggregate-merge-runs
     slice-aggregate-merge-runs-2
     slice-aggregate-merge-runs-3

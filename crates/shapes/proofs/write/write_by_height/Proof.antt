@@ -3,7 +3,7 @@
 use borrow.Author.Needs.{needs}
 use Rattle.arena.proofs.Walking.{count}
 use Rattle.shapes.proofs.ListWalk.{walk-less, walk-has}
-use Rattle.shapes.proofs.Heights.{Heights, head-summable, heights-start, heights-summable, heights-room, heights-more, heights-done}
+use Rattle.shapes.proofs.Heights.{Heights, head-enterable, heights-start, heights-summable, heights-room, heights-more, heights-done}
 use Rattle.shapes.proofs.write.write_by_height.Statement.{statement}
 use Rattle.shapes.proofs.write.write_by_height.Tie as tie
 
@@ -13,11 +13,11 @@ Inv-loop arena head output₀ sums₀ next₀ at₀ output sums next at = Height
 abbrev μ-loop : tie.MeasureT-loop
 μ-loop arena head output₀ sums₀ next₀ at₀ output sums next at = count 512 arena next
 
-slice-aggregate-pass : tie.Need-slice-aggregate-pass Inv-loop μ-loop
-slice-aggregate-pass c = search needs
+slice-aggregate-enter : tie.Need-slice-aggregate-enter Inv-loop μ-loop
+slice-aggregate-enter c = search needs
 
-pass-requires : tie.Need-pass-requires Inv-loop μ-loop
-pass-requires c κs = search (needs, head-summable)
+enter-requires : tie.Need-enter-requires Inv-loop μ-loop
+enter-requires c κs = search (needs, head-enterable)
 
 get-requires : tie.Need-get-requires Inv-loop μ-loop
 get-requires c κs = search needs
@@ -43,11 +43,11 @@ true-p-requires c κs = search (needs, heights-summable)
 write-item-requires : tie.Need-write-item-requires Inv-loop μ-loop
 write-item-requires c κs = search (needs, heights-room)
 
-slice-aggregate-pass-2 : tie.Need-slice-aggregate-pass-2 Inv-loop μ-loop
-slice-aggregate-pass-2 c = search needs
+slice-aggregate-pass : tie.Need-slice-aggregate-pass Inv-loop μ-loop
+slice-aggregate-pass c = search needs
 
-pass-requires-2 : tie.Need-pass-requires-2 Inv-loop μ-loop
-pass-requires-2 c κs = search (needs, heights-summable)
+pass-requires : tie.Need-pass-requires Inv-loop μ-loop
+pass-requires c κs = search (needs, heights-summable)
 
 add-at : tie.Need-add-at Inv-loop μ-loop
 add-at c = search (needs, heights-room)
@@ -57,13 +57,13 @@ loop-less c = search (needs, walk-less)
 
 loop-again : tie.Need-loop-again Inv-loop μ-loop
 loop-again c =
-    let at-pass2 = c .before in
-    let at-write-item = at-pass2 .before .before .before .before in
+    let at-pass = c .before in
+    let at-write-item = at-pass .before .before .before .before in
     let at-true-p = at-write-item .before .before in
     let at-get3 = at-true-p .before .before in
     let at-wide = at-get3 .before .before in
     let at-loop-test = at-wide .before in
-    heights-more _ _ _ _ _ _ _ (at-loop-test .before .loop .inv) (at-loop-test .loop-test .taken) _ (at-wide .wide .ensures) _ _ _ _ _ (at-get3 .get3 .ensures) (at-true-p .true-p .ensures) (at-write-item .write-item .ensures) (at-pass2 .pass2 .ensures) (at-get3 .before .get2 .ensures)
+    heights-more _ _ _ _ _ _ _ (at-loop-test .before .loop .inv) (at-loop-test .loop-test .taken) _ (at-wide .wide .ensures) _ _ _ _ _ (at-get3 .get3 .ensures) (at-true-p .true-p .ensures) (at-write-item .write-item .ensures) (at-pass .pass .ensures) (at-get3 .before .get2 .ensures)
 
 same-length : tie.Need-same-length Inv-loop μ-loop
 same-length c = search needs
@@ -77,8 +77,8 @@ write-by-height-spec =
     (tie.spec
     Inv-loop
     μ-loop
-    slice-aggregate-pass
-    pass-requires
+    slice-aggregate-enter
+    enter-requires
     get-requires
     loop-holds
     wide-requires
@@ -87,8 +87,8 @@ write-by-height-spec =
     slice-aggregate-true-p
     true-p-requires
     write-item-requires
-    slice-aggregate-pass-2
-    pass-requires-2
+    slice-aggregate-pass
+    pass-requires
     add-at
     loop-less
     loop-again

@@ -3,7 +3,7 @@
 use borrow.Author.Needs.{needs}
 use Rattle.arena.proofs.Walking.{count}
 use Rattle.shapes.proofs.ListWalk.{walk-less, walk-has}
-use Rattle.shapes.proofs.Heights.{head-summable}
+use Rattle.shapes.proofs.Heights.{head-enterable}
 use Rattle.shapes.proofs.Widths.{Widths, listed-countable, counted-room, widths-start, widths-summable, widths-two, widths-room, widths-more, widths-done}
 use Rattle.shapes.proofs.write.write_by_width.Statement.{statement}
 use Rattle.shapes.proofs.write.write_by_width.Tie as tie
@@ -17,11 +17,11 @@ abbrev μ-loop : tie.MeasureT-loop
 count-items-requires : tie.Need-count-items-requires Inv-loop μ-loop
 count-items-requires c κs = listed-countable _ _ _ (c .before .before .pre)
 
-slice-aggregate-pass : tie.Need-slice-aggregate-pass Inv-loop μ-loop
-slice-aggregate-pass c = search needs
+slice-aggregate-enter : tie.Need-slice-aggregate-enter Inv-loop μ-loop
+slice-aggregate-enter c = search needs
 
-pass-requires : tie.Need-pass-requires Inv-loop μ-loop
-pass-requires c κs = search (needs, head-summable)
+enter-requires : tie.Need-enter-requires Inv-loop μ-loop
+enter-requires c κs = search (needs, head-enterable)
 
 get-requires : tie.Need-get-requires Inv-loop μ-loop
 get-requires c κs = search needs
@@ -55,11 +55,11 @@ sub-at c = search (needs, widths-two)
 write-item-requires : tie.Need-write-item-requires Inv-loop μ-loop
 write-item-requires c κs = search (needs, widths-room)
 
-slice-aggregate-pass-2 : tie.Need-slice-aggregate-pass-2 Inv-loop μ-loop
-slice-aggregate-pass-2 c = search needs
+slice-aggregate-pass : tie.Need-slice-aggregate-pass Inv-loop μ-loop
+slice-aggregate-pass c = search needs
 
-pass-requires-2 : tie.Need-pass-requires-2 Inv-loop μ-loop
-pass-requires-2 c κs =
+pass-requires : tie.Need-pass-requires Inv-loop μ-loop
+pass-requires c κs =
     let at-wide = c .before .before .before .before .before .before .before .before .before in
     let at-loop-test = at-wide .before in
     let at-loop = at-loop-test .before in
@@ -84,8 +84,8 @@ write-by-width-spec =
     Inv-loop
     μ-loop
     count-items-requires
-    slice-aggregate-pass
-    pass-requires
+    slice-aggregate-enter
+    enter-requires
     get-requires
     mul-at
     loop-holds
@@ -96,8 +96,8 @@ write-by-width-spec =
     true-p-requires
     sub-at
     write-item-requires
-    slice-aggregate-pass-2
-    pass-requires-2
+    slice-aggregate-pass
+    pass-requires
     loop-less
     loop-again
     same-length
