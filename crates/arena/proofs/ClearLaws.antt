@@ -11,7 +11,7 @@ use Rattle.arena.specs.Lazy.{nextWith}
 use Rattle.arena.specs.Chain.{Has, put, Same}
 use Rattle.arena.specs.Building.{Cleared}
 use Rattle.arena.proofs.Cases.{last-or-below}
-use Rattle.arena.proofs.PutLaws.{length-put, word-same, word-other-record, word-other-field, same-refl}
+use Rattle.arena.proofs.PutLaws.{length-put, word-same, word-other-record, word-other-field, put-same, same-refl}
 
 -- What the loop keeps: words 3 to j - 1 of the head are 0.
 pub record Clearing (a : List ℕ) (h : ℕ) (b : List ℕ) (j : ℕ) : Type 0 where
@@ -83,3 +83,10 @@ clearing-done a h b c j s done e = subst (λ (d : List ℕ). Cleared a h d) (sym
                 still = λ k p. zeros (11 + k) (omega arith) (omega arith);
               };
         }
+
+-- The first forward of a cleared head is 0, so that a store of 0 changes nothing.
+pub cleared-first : (a : List ℕ) (h : ℕ) (b : List ℕ) → Cleared a h b → put b h 3 0 ≡ b
+unfolding nextWith
+cleared-first a h b cleared =
+    let top = cleared .built .linked .top in
+    put-same b h 3 0 (sym (cleared .built .linked .links .at 0 (omega arith)))

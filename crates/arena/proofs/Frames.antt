@@ -12,7 +12,8 @@ use Rattle.arena.specs.Arena.{level, pWord, adjust}
 use Rattle.arena.specs.Lazy.{nextWith, lastWith, sumFrom}
 use Rattle.arena.specs.Chain.{All, Member, Chain, Linked, pUnder, after, trues, Same, Shape, Value}
 use Rattle.arena.specs.Building.{Built}
-use Rattle.arena.proofs.SumLaws.{sum-frame}
+use Rattle.arena.proofs.Cases.{lt-or-ge}
+use Rattle.arena.proofs.SumLaws.{sum-agree, sum-frame}
 
 pub all-map : {P Q : ℕ → Type 0} (rs : List ℕ) → ((x : ℕ) → P x → Q x) → All P rs → All Q rs
 all-map [] f p = tt
@@ -94,6 +95,10 @@ chain-frame a b [] long s c = tt
 chain-frame a b (r ∷ rs) long s c =
     (member-frame a b r rs long (s .0) (s .1) (c .0), chain-frame a b rs long (s .1) (c .1))
 
+pub chain-low : (a : List ℕ) (rs : List ℕ) → Chain a rs → All (λ x. 1 ≤ level a x) rs
+chain-low a [] c = tt
+chain-low a (r ∷ rs) c = (c .0 .low, chain-low a rs (c .1))
+
 pub linked-frame : (a b : List ℕ) (h : ℕ) (rs : List ℕ) → length b ≡ length a → Shape a b h → All (Shape a b) rs → Linked a h rs → Linked b h rs
 linked-frame a b h rs long s t l =
     let e = s .level-kept in
@@ -146,3 +151,19 @@ trues-frame a b f g [] e v = refl
 trues-frame a b f g (r ∷ rs) e v =
     ap₂ _∷_ (under-frame a b f g e r (v .0 .level-kept) (v .0 .p-kept))
     (trues-frame a b (after a f r) (after b g r) rs (after-frame a b f g e r (v .0)) (v .1))
+
+-- Sums that agree from link 1 up agree so after a record.
+after-agree : (a : List ℕ) (f g : ℕ → ℕ) (r : ℕ) → ((k : ℕ) → 1 ≤ k → k < 8 → g k ≡ f k) → (k : ℕ) → 1 ≤ k → k < 8 → after a g r k ≡ after a f r k
+after-agree a f g r e k low high =
+    lt-or-ge k (level a r) (λ p. after-in a g r k p ∙ sym (after-in a f r k p))
+    (λ p. after-out a g r k p ∙ e k low high ∙ sym (after-out a f r k p))
+
+-- Link 0 counts for no true p, since a record has a level of 1 or more: sums that agree from link 1 up give the same.
+pub lowest-free : (a : List ℕ) (f g : ℕ → ℕ) (rs : List ℕ) → All (λ x. 1 ≤ level a x) rs → ((k : ℕ) → 1 ≤ k → k < 8 → g k ≡ f k) → trues a g rs ≡ trues a f rs
+unfolding trues pUnder
+lowest-free a f g [] low e = refl
+lowest-free a f g (r ∷ rs) low e =
+    let some = low .0 in
+    ap₂ _∷_
+    (ap (λ (s : ℕ). (pWord a r + s) % 2 ^ 32) (sum-agree f g (level a r) 8 (λ k from high. e k (omega arith) high)))
+    (lowest-free a (after a f r) (after a g r) rs (low .1) (after-agree a f g r e))

@@ -9,15 +9,16 @@ use lib.ListN.{length, getD, drop}
 use lib.Seq.{drop-cons, drop-drop, drop-length}
 use Rattle.slicing.specs.Item.{Item, size}
 use Rattle.arena.specs.Arena.{level, mWord}
-use Rattle.arena.specs.Chain.{All, Away, trues, Same}
+use Rattle.arena.specs.Chain.{put, All, Away, trues, Same}
 use Rattle.arena.specs.Building.{Built, Cleared}
 use Rattle.facefile.specs.Format.{field}
 use Rattle.facefile.specs.Sizes.{sizesIn}
 use Rattle.facefile.proofs.SizeChecks.{size-at}
-use Rattle.arena.specs.Loading.{numbers, loaded1, Loadable, Loaded}
-use Rattle.arena.proofs.PutLaws.{same-refl, same-trans}
+use Rattle.arena.specs.Loading.{numbers, Placed, Loadable, Loaded}
+use Rattle.arena.proofs.PutLaws.{length-put, same-refl, same-trans}
 use Rattle.arena.proofs.Frames.{all-map, all-both, map-same}
-use Rattle.arena.proofs.Written.{Loaded1, loaded-one}
+use Rattle.arena.proofs.ClearLaws.{cleared-first}
+use Rattle.arena.proofs.Written.{Loaded1, loaded-beside}
 
 abbrev ms : List Item → List ℕ
 ms zs = map (λ (z : Item). z .m) zs
@@ -51,16 +52,20 @@ sizes-step s k n p =
     (sym (size-at s (4 * k) (field s (4 * k)) (field s (4 * k + 2)) refl refl))
     (ap (sizesIn (n - (k + 1))) (drop-drop 4 (4 * k) s ∙ ap (λ (j : ℕ). drop j s) f))
 
--- The arena a is that with the head cleared; the records from first + i on are filled and are its list.
-pub record Loading (a : List ℕ) (head first : ℕ) (sizes levels b : List ℕ) (i : ℕ) : Type 0 where
+-- The arena a is that with the head cleared; the records from first + i on are filled and are its list. The arena d is that with the head's first forward stored.
+pub record Filled (a : List ℕ) (head first : ℕ) (sizes levels d : List ℕ) (i : ℕ) : Type 0 where
+  pub outside : (x : ℕ) → (x ≡ head → ⊥) → Away x (numbers (first + i) (length levels - i)) → Same a d x
+  pub built : Built d head (numbers (first + i) (length levels - i))
+  pub level-is : map (level d) (numbers (first + i) (length levels - i)) ≡ drop i levels
+  pub m-is : map (mWord d) (numbers (first + i) (length levels - i)) ≡ ms (sizesIn (length levels - i) (drop (4 * i) sizes))
+  pub true-p : trues d (λ k. 0) (numbers (first + i) (length levels - i)) ≡ ps (sizesIn (length levels - i) (drop (4 * i) sizes))
+
+-- The same with that forward beside the arena b, as `last`.
+pub record Loading (a : List ℕ) (head first : ℕ) (sizes levels b : List ℕ) (last i : ℕ) : Type 0 where
   pub inside : i ≤ length levels
   pub can : Loadable b head first sizes levels
   pub long : length b ≡ length a
-  pub outside : (x : ℕ) → (x ≡ head → ⊥) → Away x (numbers (first + i) (length levels - i)) → Same a b x
-  pub built : Built b head (numbers (first + i) (length levels - i))
-  pub level-is : map (level b) (numbers (first + i) (length levels - i)) ≡ drop i levels
-  pub m-is : map (mWord b) (numbers (first + i) (length levels - i)) ≡ ms (sizesIn (length levels - i) (drop (4 * i) sizes))
-  pub true-p : trues b (λ k. 0) (numbers (first + i) (length levels - i)) ≡ ps (sizesIn (length levels - i) (drop (4 * i) sizes))
+  pub filled : Filled a head first sizes levels (put b head 3 last) i
 
 loadable-kept : (a b : List ℕ) (head first : ℕ) (sizes levels : List ℕ) → length b ≡ length a → Loadable a head first sizes levels → Loadable b head first sizes levels
 loadable-kept a b head first sizes levels long l =
@@ -77,26 +82,34 @@ loadable-kept a b head first sizes levels long l =
       bytes = l .bytes;
     }
 
-pub loading-start : (a : List ℕ) (head first : ℕ) (sizes levels b : List ℕ) → Loadable a head first sizes levels → Cleared a head b → Loading b head first sizes levels b (length levels)
+pub loading-start : (a : List ℕ) (head first : ℕ) (sizes levels b : List ℕ) → Loadable a head first sizes levels → Cleared a head b → Loading b head first sizes levels b 0 (length levels)
 unfolding numbers sizesIn trues
 loading-start a head first sizes levels b l cleared =
     let none : length levels - length levels ≡ 0 = omega arith in
+    let same = cleared-first a head b cleared in
     record {
       inside = omega arith;
       can = loadable-kept a b head first sizes levels (cleared .long) l;
       long = refl;
-      outside = λ x p q. same-refl b x;
-      built = rw none (cleared .built);
-      level-is = rw none (sym (drop-length levels));
-      m-is = rw none refl;
-      true-p = rw none refl;
+      filled =
+          subst (λ (d : List ℕ). Filled b head first sizes levels d (length levels)) (sym same)
+          (record {
+            outside = λ x p q. same-refl b x;
+            built = rw none (cleared .built);
+            level-is = rw none (sym (drop-length levels));
+            m-is = rw none refl;
+            true-p = rw none refl;
+          });
     }
+
+pub loading-low : (b : List ℕ) (head first : ℕ) (sizes levels : List ℕ) (k v : ℕ) → Loadable b head first sizes levels → k < length levels → v ≡ getD levels k 0 → 1 ≤ v
+loading-low b head first sizes levels k v l p e = let h = l .low k p in omega arith
 
 pub loading-high : (b : List ℕ) (head first : ℕ) (sizes levels : List ℕ) (k v : ℕ) → Loadable b head first sizes levels → k < length levels → v ≡ getD levels k 0 → v ≤ 8
 loading-high b head first sizes levels k v l p e = let h = l .high k p in omega arith
 
 -- The record of size k before those of the sizes from k + 1 on.
-module _ (a : List ℕ) (head first : ℕ) (sizes levels b : List ℕ) (k : ℕ) (t : Loading a head first sizes levels b (k + 1)) (v h w : ℕ) (c : List ℕ) (v-is : v ≡ getD levels k 0) (h-is : h ≡ field sizes (4 * k)) (w-is : w ≡ field sizes (4 * k + 2)) (small : w < 65_536) (e : c ≡ loaded1 b head (first + k) v h w) where
+module _ (a : List ℕ) (head first : ℕ) (sizes levels b : List ℕ) (last k : ℕ) (t : Loading a head first sizes levels b last (k + 1)) (v h w : ℕ) (c : List ℕ) (v-is : v ≡ getD levels k 0) (h-is : h ≡ field sizes (4 * k)) (w-is : w ≡ field sizes (4 * k + 2)) (small : w < 65_536) (placed : Placed b head (first + k) last v h w c) where
   less : k < length levels
   less = let inside = t .inside in omega arith
 
@@ -107,7 +120,14 @@ module _ (a : List ℕ) (head first : ℕ) (sizes levels b : List ℕ) (k : ℕ)
   unfolding rest
   away = numbers-away (first + k) (first + (k + 1)) (length levels - (k + 1)) (omega arith)
 
-  one : Loaded1 b head (first + k) v h w rest c
+  -- The arenas before and after, with the head's first forward stored.
+  abbrev d : List ℕ
+  d = put b head 3 last
+
+  abbrev e : List ℕ
+  e = put c head 3 (first + k)
+
+  one : Loaded1 d head (first + k) v h w rest e
   unfolding rest
   one =
       let inside = less in
@@ -115,53 +135,65 @@ module _ (a : List ℕ) (head first : ℕ) (sizes levels b : List ℕ) (k : ℕ)
       let has = t .can .has in
       let low = t .can .low k less in
       let high = t .can .high k less in
-      loaded-one b head (first + k) v h w rest c (t .built) (omega arith) (omega arith) (omega arith) (omega arith) (omega arith) (t .can .apart k less) away e
+      loaded-beside b head (first + k) v h w last rest c (t .filled .built) (omega arith) (omega arith) (omega arith) (omega arith) (omega arith) (t .can .apart k less) away placed
 
-  rest-same : All (Same b c) rest
+  rest-same : All (Same d e) rest
   unfolding rest
-  rest-same = all-both rest (one .outside) (t .built .linked .away) away
+  rest-same = all-both rest (one .outside) (t .filled .built .linked .away) away
 
-  loading-one : Loading a head first sizes levels c k
+  filled-one : Filled a head first sizes levels e k
   unfolding rest
-  loading-one =
-      let inside = less in
+  filled-one =
       record {
-        inside = omega arith;
-        can = loadable-kept b c head first sizes levels (one .long) (t .can);
-        long = one .long ∙ t .long;
         outside = rw (numbers-step first k (length levels) less)
-            (λ x p q. same-trans a b c x (t .outside x p (q .1)) (one .outside x p (λ f. q .0 (sym f))));
+            (λ x p q. same-trans a d e x (t .filled .outside x p (q .1)) (one .outside x p (λ f. q .0 (sym f))));
         built = rw (numbers-step first k (length levels) less) (one .built);
         level-is =
             rw (numbers-step first k (length levels) less)
             (ap₂ _∷_ (one .level-is ∙ v-is)
-            (map-same (level c) (level b) rest (all-map rest (λ x (s : Same b c x). s .at 0 (omega arith)) rest-same) ∙ t .level-is)
+            (map-same (level e) (level d) rest (all-map rest (λ x (s : Same d e x). s .at 0 (omega arith)) rest-same)
+            ∙ t .filled .level-is)
             ∙ sym (levels-step levels k less));
         m-is =
             rw (numbers-step first k (length levels) less, sizes-step sizes k (length levels) less)
             (ap₂ _∷_ (one .m-is ∙ h-is)
-            (map-same (mWord c) (mWord b) rest (all-map rest (λ x (s : Same b c x). s .at 1 (omega arith)) rest-same) ∙ t .m-is));
+            (map-same (mWord e) (mWord d) rest (all-map rest (λ x (s : Same d e x). s .at 1 (omega arith)) rest-same)
+            ∙ t .filled .m-is));
         true-p =
             rw (numbers-step first k (length levels) less, sizes-step sizes k (length levels) less)
-            (one .true-p ∙ ap₂ _∷_ w-is (t .true-p));
+            (one .true-p ∙ ap₂ _∷_ w-is (t .filled .true-p));
       }
 
-pub loading-more : (a : List ℕ) (head first : ℕ) (sizes levels b : List ℕ) (i : ℕ) → Loading a head first sizes levels b i → 0 < i → (v h w : ℕ) (c : List ℕ) → v ≡ getD levels (i - 1) 0 → h ≡ field sizes (4 * (i - 1)) → w ≡ field sizes (4 * (i - 1) + 2) → w < 65_536 → c ≡ loaded1 b head (first + (i - 1)) v h w → Loading a head first sizes levels c (i - 1)
-loading-more a head first sizes levels b i t some v h w c v-is h-is w-is small e =
-    let back : i ≡ i - 1 + 1 = omega arith in
-    loading-one a head first sizes levels b (i - 1) (subst (Loading a head first sizes levels b) back t) v h w c v-is h-is w-is small e
+  loading-one : Loading a head first sizes levels c (first + k) k
+  loading-one =
+      let inside = less in
+      let stored = one .long in
+      let before = length-put b head 3 last in
+      let after = length-put c head 3 (first + k) in
+      let long : length c ≡ length b = omega arith in
+      record {
+        inside = omega arith;
+        can = loadable-kept b c head first sizes levels long (t .can);
+        long = long ∙ t .long;
+        filled = filled-one;
+      }
 
-pub loading-done : (a : List ℕ) (head first : ℕ) (sizes levels b c : List ℕ) (i : ℕ) → Cleared a head b → Loading b head first sizes levels c i → i ≤ 0 → Loaded a head first sizes levels c
-loading-done a head first sizes levels b c i cleared t none =
+pub loading-more : (a : List ℕ) (head first : ℕ) (sizes levels b : List ℕ) (last i : ℕ) → Loading a head first sizes levels b last i → 0 < i → (v h w : ℕ) (c : List ℕ) → v ≡ getD levels (i - 1) 0 → h ≡ field sizes (4 * (i - 1)) → w ≡ field sizes (4 * (i - 1) + 2) → w < 65_536 → Placed b head (first + (i - 1)) last v h w c → Loading a head first sizes levels c (first + (i - 1)) (i - 1)
+loading-more a head first sizes levels b last i t some v h w c v-is h-is w-is small placed =
+    let back : i ≡ i - 1 + 1 = omega arith in
+    loading-one a head first sizes levels b last (i - 1) (subst (Loading a head first sizes levels b last) back t) v h w c v-is h-is w-is small placed
+
+pub loading-done : (a : List ℕ) (head first : ℕ) (sizes levels b d : List ℕ) (last i : ℕ) (c : List ℕ) → Cleared a head b → Loading b head first sizes levels d last i → i ≤ 0 → c ≡ put d head 3 last → Loaded a head first sizes levels c
+loading-done a head first sizes levels b d last i c cleared t none stored =
     let start : i ≡ 0 = omega arith in
-    all (subst (Loading b head first sizes levels c) start t)
+    all (subst (λ (g : List ℕ). Filled b head first sizes levels g 0) (sym stored) (subst (Filled b head first sizes levels (put d head 3 last)) start (t .filled)))
   where
-    all : Loading b head first sizes levels c 0 → Loaded a head first sizes levels c
+    all : Filled b head first sizes levels c 0 → Loaded a head first sizes levels c
     all s =
         let e : first + 0 ≡ first = omega arith in
         let f : length levels - 0 ≡ length levels = omega arith in
         record {
-          long = s .long ∙ cleared .long;
+          long = ap length stored ∙ length-put d head 3 last ∙ t .long ∙ cleared .long;
           outside =
               λ x p q. same-trans a b c x (cleared .outside x p) (s .outside x p (rw (e, f) q));
           built = rw (e, f) at (s .built);

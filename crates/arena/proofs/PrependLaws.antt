@@ -1,21 +1,18 @@
 -- A record hooked before a list whose head's adjusts are 0 makes a list with that record first, and no true p changes.
--- The head's forwards pass to the record up to its level and stand above it, and the record's adjusts are 0 like the head's.
-use mathlib.Core.Path.{_≡_, sym, ap, ap₂, subst, _∙_}
-use mathlib.Core.Bool.{Bool, cond}
+-- The head's forwards pass to the record up to its level and stand above it, and the record's adjusts from link 1 up are 0 like the head's.
+use mathlib.Core.Path.{_≡_, refl, sym, ap, ap₂, _∙_}
 use mathlib.Core.List.{List, _∷_}
-use Prim.Native.Nat.{ℕ, _%_, _^_, _<_}
+use Prim.Native.Nat.{ℕ, _%_, _^_, _≤_, _<_}
 use native.Mathlib.Omega.{arith}
-use borrow.Author.Tests.{lt-ltb, le-ltb}
-use Rattle.arena.specs.Arena.{level, pWord, forward, adjust}
+use Rattle.arena.specs.Arena.{level, pWord, forward}
 use Rattle.arena.specs.Lazy.{nextWith}
-use Rattle.arena.specs.Chain.{All, Member, Linked, pUnder, after, trues, Same}
-use Rattle.arena.specs.Building.{hooked, Built, Fresh, Prepended}
+use Rattle.arena.specs.Chain.{All, Member, Chain, Linked, pUnder, after, trues, Same}
+use Rattle.arena.specs.Building.{Hooked, Built, Fresh, Prepended}
 use Rattle.arena.proofs.Cases.{lt-or-ge}
 use Rattle.arena.proofs.SumLaws.{sum-zero}
-use Rattle.arena.proofs.Frames.{all-map, all-both, same-shape, same-value, next-here, next-past, next-frame, chain-frame, trues-frame}
-use Rattle.arena.proofs.HookLaws.{Hooking, hooking}
+use Rattle.arena.proofs.Frames.{all-map, all-both, same-shape, same-value, next-here, next-past, next-frame, chain-frame, chain-low, after-in, after-out, trues-frame, lowest-free}
 
-module _ (a : List ℕ) (h r : ℕ) (rs b : List ℕ) (built : Built a h rs) (fresh : Fresh a h r rs) (s : Hooking (level a r) a h r b) where
+module _ (a : List ℕ) (h r : ℕ) (rs b : List ℕ) (built : Built a h rs) (fresh : Fresh a h r rs) (s : Hooked 0 (level a r) a h r b) where
   linked : Linked a h rs
   linked = built .linked
 
@@ -32,8 +29,8 @@ module _ (a : List ℕ) (h r : ℕ) (rs b : List ℕ) (built : Built a h rs) (fr
   head-links k p =
       let e = level-kept in
       let top = linked .top in
-      lt-or-ge k (level a r) (λ less. s .head-new k less ∙ sym (next-here b k r rs (omega arith)))
-      (λ past. s .head-old k past p ∙ linked .links .at k (omega arith) ∙ sym (next-frame a b k rs rest-levels)
+      lt-or-ge k (level a r) (λ less. s .head-new k (omega arith) less ∙ sym (next-here b k r rs (omega arith)))
+      (λ past. s .head-old k (λ from below. omega arith) p ∙ linked .links .at k (omega arith) ∙ sym (next-frame a b k rs rest-levels)
       ∙ sym (next-past b k r rs (omega arith)))
 
   new-member : Member b r rs
@@ -51,19 +48,20 @@ module _ (a : List ℕ) (h r : ℕ) (rs b : List ℕ) (built : Built a h rs) (fr
         high = omega arith;
         links =
             record {
-              at = λ k p. s .new-forward k (omega arith) ∙ linked .links .at k (omega arith)
+              at = λ k p. s .new-forward k (omega arith) (omega arith) ∙ linked .links .at k (omega arith)
                   ∙ sym (next-frame a b k rs rest-levels);
             };
         away = fresh .away;
       }
 
-  after-zero : (k : ℕ) → k < 8 → after b (λ n. 0) r k ≡ 0
-  unfolding after
-  after-zero k p =
+  rest-chain : Chain b rs
+  rest-chain = chain-frame a b rs (s .long) (all-map rs (same-shape a b) rest-same) (linked .chain)
+
+  after-zero : (k : ℕ) → 1 ≤ k → k < 8 → after b (λ n. 0) r k ≡ 0
+  after-zero k some few =
       let e = level-kept in
-      lt-or-ge k (level b r)
-      (λ less. ap (λ (t : Bool). cond t (adjust b r k) 0) (lt-ltb k (level b r) less) ∙ s .new-adjust k (omega arith))
-      (λ past. ap (λ (t : Bool). cond t (adjust b r k) 0) (le-ltb k (level b r) past))
+      lt-or-ge k (level b r) (λ p. after-in b (λ n. 0) r k p ∙ s .new-adjust k some (omega arith) (omega arith))
+      (λ p. after-out b (λ n. 0) r k p)
 
   first-p : pUnder b (λ k. 0) r ≡ pWord a r % 2 ^ 32
   unfolding pUnder
@@ -72,9 +70,9 @@ module _ (a : List ℕ) (h r : ℕ) (rs b : List ℕ) (built : Built a h rs) (fr
       let z = sum-zero (level b r) 8 in
       ap (λ (n : ℕ). n % 2 ^ 32) (omega arith)
 
-  after-hooking : Prepended a h r rs b
+  pub prepended : Prepended a h r rs b
   unfolding trues
-  after-hooking =
+  prepended =
       let has = linked .has in
       let long = s .long in
       let e = s .low h 0 (omega arith) in
@@ -91,17 +89,12 @@ module _ (a : List ℕ) (h r : ℕ) (rs b : List ℕ) (built : Built a h rs) (fr
                     top = e ∙ top;
                     links = record { at = λ k p. head-links k (omega arith) };
                     away = (fresh .apart, linked .away);
-                    chain = (new-member, chain-frame a b rs long (all-map rs (same-shape a b) rest-same) (linked .chain));
+                    chain = (new-member, rest-chain);
                   };
               still = λ k p. s .head-adjust k p ∙ built .still k p;
             };
         true-p =
             ap₂ _∷_ first-p
-            (trues-frame a b (λ k. 0) (after b (λ k. 0) r) rs after-zero (all-map rs (same-value a b) rest-same));
+            (lowest-free b (λ k. 0) (after b (λ k. 0) r) rs (chain-low b rs rest-chain) after-zero
+            ∙ trues-frame a b (λ k. 0) (λ k. 0) rs (λ k w. refl) (all-map rs (same-value a b) rest-same));
       }
-
-pub prepended : (a : List ℕ) (h r : ℕ) (rs b : List ℕ) → Built a h rs → Fresh a h r rs → b ≡ hooked (level a r) a h r → Prepended a h r rs b
-prepended a h r rs b built fresh e =
-    after-hooking a h r rs b built fresh
-    (subst (λ (c : List ℕ). Hooking (level a r) a h r c) (sym e)
-    (hooking (level a r) a h r (fresh .high) (built .linked .has) (fresh .has) (fresh .apart)))

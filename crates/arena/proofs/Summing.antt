@@ -11,7 +11,7 @@ use Rattle.arena.specs.Arena.{word, level, pWord, adjust}
 use Rattle.arena.specs.Lazy.{sumFrom}
 use Rattle.arena.specs.Chain.{pUnder, after}
 use Rattle.arena.specs.Turning.{Summable, Enterable, Suffixes}
-use Rattle.arena.proofs.Cases.{eq-or-ne}
+use Rattle.arena.proofs.Cases.{lt-or-ge, eq-or-ne}
 use Rattle.arena.proofs.SumLaws.{sum-none, sum-first, sum-agree, sum-zero}
 use Rattle.arena.proofs.Frames.{after-in, after-out}
 
@@ -34,6 +34,26 @@ zeros-at (suc n) (suc l) = zeros-at n l
 pub suffixes-none : Suffixes (λ k. 0) (replicate 9 0)
 suffixes-none =
     record { nine = refl; at = λ l low high. zeros-at 9 l ∙ sym (ap (λ (n : ℕ). n % 2 ^ 32) (sum-zero l 8)) }
+
+-- The same words hold sums that agree from link 1 up.
+pub suffixes-agree : (f g : ℕ → ℕ) (sums : List ℕ) → ((k : ℕ) → 1 ≤ k → k < 8 → g k ≡ f k) → Suffixes f sums → Suffixes g sums
+suffixes-agree f g sums e t =
+    record {
+      nine = t .nine;
+      at = λ l low high.
+          t .at l low high
+          ∙ ap (λ (n : ℕ). n % 2 ^ 32) (sym (sum-agree f g l 8 (λ k from inside. e k (omega arith) inside)));
+    }
+
+-- The sums that a record leaves are the same where its level and its adjusts are.
+pub passed-kept : (a b : List ℕ) (f : ℕ → ℕ) (r : ℕ) (sums : List ℕ) → level b r ≡ level a r → ((k : ℕ) → k < 8 → adjust b r k ≡ adjust a r k) → Suffixes (after b f r) sums → Suffixes (after a f r) sums
+passed-kept a b f r sums level-kept adjust-kept t =
+    suffixes-agree (after b f r) (after a f r) sums
+    (λ k some few.
+    lt-or-ge k (level a r)
+    (λ p. after-in a f r k p ∙ sym (adjust-kept k few) ∙ sym (after-in b f r k (omega arith)))
+    (λ p. after-out a f r k p ∙ sym (after-out b f r k (omega arith))))
+    t
 
 -- The words from l up hold the sums f.
 pub record HeldFrom (l : ℕ) (f : ℕ → ℕ) (sums : List ℕ) : Type 0 where

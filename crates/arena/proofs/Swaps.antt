@@ -1,16 +1,18 @@
 -- What the words are after m and p of a record change places and the record is put before a list that is being built.
--- The two stores reach words 1 and 2 of that record alone, and what prepending does is known.
-use mathlib.Core.Path.{_≡_, refl, sym, ap, ap₂, _∙_}
+-- The two stores reach words 1 and 2 of that record alone, and what putting its links before the list does is known.
+use mathlib.Core.Path.{_≡_, refl, sym, ap, ap₂, subst, _∙_}
 use mathlib.Core.List.{List, _∷_}
-use Prim.Native.Nat.{ℕ, _%_, _^_, _<_}
+use Prim.Native.Nat.{ℕ, _+_, _%_, _^_, _<_}
 use native.Mathlib.Omega.{arith}
 use lib.ListN.{length}
 use Rattle.arena.specs.Arena.{stride, word, level, mWord, pWord}
-use Rattle.arena.specs.Chain.{Has, put, All, pUnder, trues, Same}
-use Rattle.arena.specs.Building.{hooked, Built, Fresh, Prepended}
-use Rattle.arena.specs.Turning.{Suffixes, swapped, turned1}
-use Rattle.arena.proofs.PutLaws.{length-put, word-same, word-other-record, word-other-field, same-trans}
-use Rattle.arena.proofs.Frames.{all-map, same-value, built-frame, trues-frame}
+use Rattle.arena.specs.Chain.{Has, put, All, pUnder, after, trues, Same}
+use Rattle.arena.specs.Building.{Hooked, Built, Fresh, Prepended}
+use Rattle.arena.specs.Turning.{Suffixes, swapped, TakenOver, Turnable1}
+use Rattle.arena.proofs.PutLaws.{length-put, word-same, word-other-record, word-other-field, put-swap, same-trans}
+use Rattle.arena.proofs.Frames.{all-map, same-value, built-frame, under-frame, trues-frame}
+use Rattle.arena.proofs.Summing.{passed-kept}
+use Rattle.arena.proofs.HookLaws.{hooked-all}
 use Rattle.arena.proofs.PrependLaws.{prepended}
 
 module _ (a : List ℕ) (f : ℕ → ℕ) (r : ℕ) where
@@ -86,11 +88,11 @@ module _ (a : List ℕ) (f : ℕ → ℕ) (h r : ℕ) (rs : List ℕ) (built : B
         away = fresh .away;
       }
 
-  pub turned-one : (b : List ℕ) → b ≡ turned1 a f h r → Turned1 a f h r rs b
-  unfolding s turned1
-  turned-one b e =
+  turned-one : (b : List ℕ) → Hooked 0 (level a r) (swapped a f r) h r b → Turned1 a f h r rs b
+  unfolding s
+  turned-one b hooks =
       let l : level s r ≡ level a r = swapped-field a f r r 0 (λ e. omega arith) (λ e. omega arith) (omega arith) in
-      let p : Prepended s h r rs b = prepended s h r rs b built-swapped fresh-swapped (e ∙ ap (λ (n : ℕ). hooked n s h r) (sym l)) in
+      let p : Prepended s h r rs b = prepended s h r rs b built-swapped fresh-swapped (subst (λ (n : ℕ). Hooked 0 n s h r b) (sym l) hooks) in
       let has = fresh .has in
       record {
         long = p .long ∙ swapped-long a f r;
@@ -105,16 +107,67 @@ module _ (a : List ℕ) (f : ℕ → ℕ) (h r : ℕ) (rs : List ℕ) (built : B
             (trues-frame a s (λ k. 0) (λ k. 0) rs (λ k w. refl) (all-map rs (same-value a s) others-same));
       }
 
--- The code's two stores, of p and m, and what prepending then makes of them.
-module _ (a : List ℕ) (r p m : ℕ) (b c : List ℕ) (first : b ≡ put a r 1 p) (second : c ≡ put b r 2 m) where
-  pub stored-level : level c r ≡ level a r
-  stored-level =
-      ap (λ (l : List ℕ). level l r) second ∙ word-other-field b r 2 m r 0 (λ e. omega arith) (omega arith) (omega arith)
-      ∙ ap (λ (l : List ℕ). level l r) first
-      ∙ word-other-field a r 1 p r 0 (λ e. omega arith) (omega arith) (omega arith)
+-- The head's first forward may be stored before the record is swapped or after.
+swapped-beside : (a : List ℕ) (f : ℕ → ℕ) (r h v : ℕ) → put (swapped a f r) h 3 v ≡ swapped (put a h 3 v) f r
+unfolding swapped
+swapped-beside a f r h v =
+    put-swap (put a r 1 (pUnder a f r)) r 2 (mWord a r) h 3 v (λ e. omega arith) (omega arith) (omega arith)
+    ∙ ap (λ (l : List ℕ). put l r 2 (mWord a r)) (put-swap a r 1 (pUnder a f r) h 3 v (λ e. omega arith) (omega arith) (omega arith))
+    ∙ ap₂ (λ (p : ℕ) (m : ℕ). put (put (put a h 3 v) r 1 p) r 2 m)
+    (sym (under-frame a (put a h 3 v) f f (λ k few. refl) r (kept 0 (λ e. omega arith) (omega arith)) (kept 2 (λ e. omega arith) (omega arith))))
+    (sym (kept 1 (λ e. omega arith) (omega arith)))
+  where
+    kept : (j : ℕ) → (j ≡ 3 → ⊥) → j < stride → word (put a h 3 v) r j ≡ word a r j
+    kept j ne few = word-other-field a h 3 v r j ne (omega arith) few
 
-  pub stored-turned : (sums : List ℕ) → ((f : ℕ → ℕ) → Suffixes f sums → p ≡ pUnder a f r) → m ≡ word a r 1 → (h : ℕ) (d : List ℕ) → d ≡ hooked (word c r 0) c h r → (f : ℕ → ℕ) → Suffixes f sums → d ≡ turned1 a f h r
-  unfolding turned1 swapped
-  stored-turned sums e g h d k f s =
-      let same : c ≡ swapped a f r = second ∙ ap₂ (λ (l : List ℕ) (v : ℕ). put l r 2 v) (first ∙ ap (put a r 1) (e f s)) g in
-      k ∙ ap₂ (λ (n : ℕ) (l : List ℕ). hooked n l h r) stored-level same
+-- One turn, where the head's first forward stands beside the arena and is stored before and after.
+pub turned-beside : (a : List ℕ) (f : ℕ → ℕ) (h r last : ℕ) (rs b : List ℕ) → Built (put a h 3 last) h rs → Fresh (put a h 3 last) h r rs → TakenOver a f h r last b → Turned1 (put a h 3 last) f h r rs (put b h 3 r)
+turned-beside a f h r last rs b built fresh hooks =
+    let long = length-put a h 3 last in
+    let s-long = swapped-long a f r in
+    let l : level (put a h 3 last) r ≡ level a r = word-other-field a h 3 last r 0 (λ e. omega arith) (omega arith) (omega arith) in
+    let head-has = built .linked .has in
+    let has = fresh .has in
+    let low = fresh .low in
+    let high = fresh .high in
+    let all = hooked-all (level a r) (swapped a f r) h r last b (omega arith) (omega arith) (omega arith) (omega arith) (fresh .apart) hooks in
+    turned-one (put a h 3 last) f h r rs built fresh (put b h 3 r)
+    (subst (λ (s : List ℕ). Hooked 0 (level (put a h 3 last) r) s h r (put b h 3 r)) (swapped-beside a f r h last)
+    (subst (λ (n : ℕ). Hooked 0 n (put (swapped a f r) h 3 last) h r (put b h 3 r)) (sym l) all))
+
+-- The code's three stores, of p, m and the record that follows.
+module _ (a : List ℕ) (r p m last : ℕ) (b c d : List ℕ) (first : b ≡ put a r 1 p) (second : c ≡ put b r 2 m) (third : d ≡ put c r 3 last) where
+  stored-field : (j : ℕ) → (j ≡ 1 → ⊥) → (j ≡ 2 → ⊥) → (j ≡ 3 → ⊥) → j < stride → word d r j ≡ word a r j
+  stored-field j one two three few =
+      ap (λ (l : List ℕ). word l r j) third ∙ word-other-field c r 3 last r j three (omega arith) few
+      ∙ ap (λ (l : List ℕ). word l r j) second ∙ word-other-field b r 2 m r j two (omega arith) few
+      ∙ ap (λ (l : List ℕ). word l r j) first ∙ word-other-field a r 1 p r j one (omega arith) few
+
+  stored-level : level d r ≡ level a r
+  stored-level = stored-field 0 (λ e. omega arith) (λ e. omega arith) (λ e. omega arith) (omega arith)
+
+  pub stored-can : (h : ℕ) (sums : List ℕ) → Turnable1 a h r sums → Turnable1 d h r sums
+  stored-can h sums can =
+      let l = stored-level in
+      let long : length d ≡ length a = ap length third ∙ length-put c r 3 last ∙ ap length second ∙ length-put b r 2 m ∙ ap length first ∙ length-put a r 1 p in
+      let hook = can .hookable in
+      let sum = can .summable in
+      record {
+        hookable = record { head-has = omega arith; has = omega arith; apart = hook .apart; fits = hook .fits };
+        summable = record { has = omega arith; low = omega arith; high = omega arith; nine = sum .nine };
+      }
+
+  module _ (sums : List ℕ) (p-is : (f : ℕ → ℕ) → Suffixes f sums → p ≡ pUnder a f r) (m-is : m ≡ word a r 1) (f : ℕ → ℕ) (s : Suffixes f sums) where
+    stored : d ≡ put (swapped a f r) r 3 last
+    unfolding swapped
+    stored = let p-here = p-is f s in cc
+
+    pub stored-hooked : (h : ℕ) (e : List ℕ) → Hooked 1 (level d r) d h r e → TakenOver a f h r last e
+    stored-hooked h e hooks =
+        subst (λ (l : List ℕ). Hooked 1 (level a r) l h r e) stored
+        (subst (λ (n : ℕ). Hooked 1 n d h r e) stored-level hooks)
+
+    pub stored-passed : (left : List ℕ) → ((g : ℕ → ℕ) → Suffixes g sums → Suffixes (after d g r) left) → Suffixes (after a f r) left
+    stored-passed left passed =
+        passed-kept a d f r left stored-level
+        (λ k few. stored-field (11 + k) (λ e. omega arith) (λ e. omega arith) (λ e. omega arith) (omega arith)) (passed f s)

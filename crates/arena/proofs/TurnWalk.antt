@@ -6,13 +6,16 @@ use Prim.Native.Nat.{ℕ, _+_, _*_, _%_, _^_, _<_}
 use native.Mathlib.Omega.{arith}
 use lib.ListN.{length, getD}
 use Rattle.arena.specs.Arena.{stride, word, level, mWord, adjust}
-use Rattle.arena.specs.Chain.{Has, All, Linked, after, trues, Same}
+use Rattle.arena.specs.Chain.{Has, put, All, Linked, after, trues, Same}
 use Rattle.arena.specs.Building.{Cleared}
-use Rattle.arena.specs.Turning.{Suffixes, Enterable, turned1, Turnable1, Turnable, Turned}
-use Rattle.arena.proofs.PutLaws.{same-trans}
+use Rattle.arena.specs.Turning.{Suffixes, Enterable, TakenOver, Turnable1, Turnable, Turned}
+use Rattle.arena.proofs.PutLaws.{length-put, word-other-record, word-other-field, same-trans}
 use Rattle.arena.proofs.Frames.{all-map, all-refl, all-both, map-same, same-shape, same-value, linked-frame, trues-frame}
+use Rattle.arena.proofs.ClearLaws.{cleared-first}
+use Rattle.arena.proofs.Summing.{passed-kept}
+use Rattle.arena.proofs.Swaps.{Turned1, turned-beside}
 use Rattle.arena.proofs.Walking.{count, next-none, next-first, count-is, one-list}
-use Rattle.arena.proofs.Turns.{Moved, Ready, moved-none, ready-more, moved-more}
+use Rattle.arena.proofs.Turns.{Moved, Ready, moved-none, ready-fresh, ready-more, moved-more}
 
 -- What clearing the new head leaves of the list.
 module _ (a : List ℕ) (from to : ℕ) (rs b : List ℕ) (t : Turnable a from to rs) (cleared : Cleared a to b) where
@@ -30,126 +33,154 @@ module _ (a : List ℕ) (from to : ℕ) (rs b : List ℕ) (t : Turnable a from t
   pub cleared-enterable : (sums : List ℕ) → length sums ≡ 9 → getD sums 8 0 ≡ 0 → Enterable b from sums
   cleared-enterable sums e none = record { has = linked-cleared .has; nine = e; none = none }
 
--- The arena a is that with the new head cleared. Of its list rs of the old head the records qs are left, and the words hold the sums f that lead to them.
-pub record Turning (a : List ℕ) (from to : ℕ) (b sums : List ℕ) (next : ℕ) : Type 0 where
+-- The arena a is that with the new head cleared. Of its list rs of the old head the records qs are left, and the words hold the sums f that lead to them. The new head's first forward is `last`, beside the arena b, so that its list is that of the arena with `last` stored.
+pub record Turning (a : List ℕ) (from to : ℕ) (b : List ℕ) (last : ℕ) (sums : List ℕ) (next : ℕ) : Type 0 where
   pub rs : List ℕ
   pub linked : Linked a from rs
   pub ds : List ℕ
   pub qs : List ℕ
-  pub ready : Ready b to ds qs next
+  pub ready : Ready (put b to 3 last) to ds qs next
   pub f : ℕ → ℕ
   pub suffixes : Suffixes f sums
-  pub rest : (c : List ℕ) → Moved b f to ds qs c → Moved a (adjust a from) to [] rs c
+  pub rest : (c : List ℕ) → Moved (put b to 3 last) f to ds qs c → Moved a (adjust a from) to [] rs c
   pub long : length b ≡ length a
   pub fits : next < 4_294_967_296
 
-pub turning-start : (a : List ℕ) (from to : ℕ) (b sums : List ℕ) (next : ℕ) → (rs : List ℕ) × Turnable a from to rs → Cleared a to b → Suffixes (adjust b from) sums → next ≡ word b from 3 → next < 4_294_967_296 → Turning b from to b sums next
+pub turning-start : (a : List ℕ) (from to : ℕ) (b sums : List ℕ) (next : ℕ) → (rs : List ℕ) × Turnable a from to rs → Cleared a to b → Suffixes (adjust b from) sums → next ≡ word b from 3 → next < 4_294_967_296 → Turning b from to b 0 sums next
 turning-start a from to b sums next (rs, t) cleared entered e fits =
     let linked = linked-cleared a from to rs b t cleared in
     let top = linked .top in
+    let same = cleared-first a to b cleared in
     record {
       rs = rs;
       linked = linked;
       ds = [];
       qs = rs;
       ready =
-          record {
+          subst (λ (d : List ℕ). Ready d to [] rs next) (sym same)
+          (record {
             built = cleared .built;
             chain = linked .chain;
             next-is = e ∙ linked .links .at 0 (omega arith);
             few = t .few;
             apart = t .away;
             cross = all-refl rs (λ x. tt);
-          };
+          });
       f = adjust b from;
       suffixes = entered;
-      rest = λ c m. m;
+      rest = λ c m. subst (λ (d : List ℕ). Moved d (adjust b from) to [] rs c) same m;
       long = refl;
       fits = fits;
     }
 
--- The same where a record is left: it is `next`.
-record Left (a : List ℕ) (from to : ℕ) (b sums : List ℕ) (next : ℕ) : Type 0 where
+-- The same where a record is left: it is `next`. The arena d is that with `last` stored.
+record Left (a : List ℕ) (from to : ℕ) (d sums : List ℕ) (next : ℕ) : Type 0 where
   pub rs : List ℕ
   pub linked : Linked a from rs
   pub ds : List ℕ
   pub qs : List ℕ
-  pub ready : Ready b to ds (next ∷ qs) next
+  pub ready : Ready d to ds (next ∷ qs) next
   pub f : ℕ → ℕ
   pub suffixes : Suffixes f sums
-  pub rest : (c : List ℕ) → Moved b f to ds (next ∷ qs) c → Moved a (adjust a from) to [] rs c
+  pub rest : (c : List ℕ) → Moved d f to ds (next ∷ qs) c → Moved a (adjust a from) to [] rs c
 
-module _ (a : List ℕ) (from to : ℕ) (b sums : List ℕ) (next : ℕ) (t : Turning a from to b sums next) (some : next ≡ 0 → ⊥) where
-  left : Left a from to b sums next
-  left = first (t .qs) (t .ready) (t .rest)
-    where
-      first : (qs : List ℕ) → Ready b to (t .ds) qs next → ((c : List ℕ) → Moved b (t .f) to (t .ds) qs c → Moved a (adjust a from) to [] (t .rs) c) → Left a from to b sums next
-      first [] ready rest = absurd (some (ready .next-is ∙ next-none b))
-      first (q ∷ qs) ready rest =
-          let e : q ≡ next = sym (ready .next-is ∙ next-first b q qs (ready .chain .0)) in
-          record {
-            rs = t .rs;
-            linked = t .linked;
-            ds = t .ds;
-            qs = qs;
-            ready = subst (λ (x : ℕ). Ready b to (t .ds) (x ∷ qs) next) e ready;
-            f = t .f;
-            suffixes = t .suffixes;
-            rest =
-                subst (λ (x : ℕ). (c : List ℕ) → Moved b (t .f) to (t .ds) (x ∷ qs) c → Moved a (adjust a from) to [] (t .rs) c) e rest;
-          }
+module _ (a : List ℕ) (from to : ℕ) (b : List ℕ) (last : ℕ) (sums : List ℕ) (next : ℕ) (t : Turning a from to b last sums next) where
+  pub turning-head : Has b to
+  turning-head =
+      let long = length-put b to 3 last in
+      let has = t .ready .built .linked .has in
+      omega arith
 
-  next-can : Turnable1 b to next sums
-  next-can =
-      let m = left .ready .chain .0 in
-      record {
-        hookable = record { head-has = left .ready .built .linked .has; has = m .has; fits = t .fits };
-        summable = record { has = m .has; low = m .low; high = m .high; nine = t .suffixes .nine };
-      }
+  module _ (some : next ≡ 0 → ⊥) where
+    left : Left a from to (put b to 3 last) sums next
+    left = first (t .qs) (t .ready) (t .rest)
+      where
+        first : (qs : List ℕ) → Ready (put b to 3 last) to (t .ds) qs next → ((c : List ℕ) → Moved (put b to 3 last) (t .f) to (t .ds) qs c → Moved a (adjust a from) to [] (t .rs) c) → Left a from to (put b to 3 last) sums next
+        first [] ready rest = absurd (some (ready .next-is ∙ next-none (put b to 3 last)))
+        first (q ∷ qs) ready rest =
+            let e : q ≡ next = sym (ready .next-is ∙ next-first (put b to 3 last) q qs (ready .chain .0)) in
+            record {
+              rs = t .rs;
+              linked = t .linked;
+              ds = t .ds;
+              qs = qs;
+              ready = subst (λ (x : ℕ). Ready (put b to 3 last) to (t .ds) (x ∷ qs) next) e ready;
+              f = t .f;
+              suffixes = t .suffixes;
+              rest =
+                  subst (λ (x : ℕ). (c : List ℕ) → Moved (put b to 3 last) (t .f) to (t .ds) (x ∷ qs) c → Moved a (adjust a from) to [] (t .rs) c) e rest;
+            }
 
-  -- The record's number as the code has it.
-  module _ (r : ℕ) (same : r ≡ next) where
-    pub turning-has : Has b r
-    turning-has = subst (λ (x : ℕ). Has b x) (sym same) (next-can .hookable .has)
+    kept : (j : ℕ) → (j ≡ 3 → ⊥) → j < stride → word (put b to 3 last) next j ≡ word b next j
+    kept j ne few = word-other-field b to 3 last next j ne (omega arith) few
 
-    pub turning-can : Turnable1 b to r sums
-    turning-can = subst (λ (x : ℕ). Turnable1 b to x sums) (sym same) next-can
+    next-can : Turnable1 b to next sums
+    next-can =
+        let m = left .ready .chain .0 in
+        let long = length-put b to 3 last in
+        let level-kept = kept 0 (λ e. omega arith) (omega arith) in
+        let has = m .has in
+        let low = m .low in
+        let high = m .high in
+        record {
+          hookable =
+              record { head-has = turning-head; has = omega arith; apart = left .ready .apart .0; fits = t .fits };
+          summable = record { has = omega arith; low = omega arith; high = omega arith; nine = t .suffixes .nine };
+        }
 
-    module _ (n : ℕ) (e : n ≡ word b r 3) (c : List ℕ) (turned : (f : ℕ → ℕ) → Suffixes f sums → c ≡ turned1 b f to r) where
-      e-next : n ≡ word b next 3
-      e-next = e ∙ ap (λ (x : ℕ). word b x 3) same
+    -- The record's number as the code has it.
+    module _ (r : ℕ) (same : r ≡ next) where
+      pub turning-has : Has b r
+      turning-has = subst (λ (x : ℕ). Has b x) (sym same) (next-can .hookable .has)
 
-      turned-next : c ≡ turned1 b (left .f) to next
-      turned-next = turned (left .f) (left .suffixes) ∙ ap (turned1 b (left .f) to) same
+      pub turning-can : Turnable1 b to r sums
+      turning-can = subst (λ (x : ℕ). Turnable1 b to x sums) (sym same) next-can
 
-      ready : Ready c to (next ∷ left .ds) (left .qs) n
-      ready = ready-more b (left .f) to next (left .ds) (left .qs) next (left .ready) c turned-next n e-next
+      module _ (n : ℕ) (e : n ≡ word b r 3) (c : List ℕ) (turned : (f : ℕ → ℕ) → Suffixes f sums → TakenOver b f to r last c) where
+        e-next : n ≡ word (put b to 3 last) next 3
+        e-next =
+            e ∙ ap (λ (x : ℕ). word b x 3) same
+            ∙ sym (word-other-record b to 3 last next 3 (left .ready .apart .0) (omega arith) (omega arith))
 
-      pub turning-less : count 512 c n < count 512 b next
-      turning-less =
-          let old = left .ready in
-          let new = ready in
-          let x = count-is 512 b (next ∷ left .qs) next (old .chain) (old .next-is) (old .few) in
-          let y = count-is 512 c (left .qs) n (new .chain) (new .next-is) (new .few) in
-          omega arith
+        one : Turned1 (put b to 3 last) (left .f) to next (left .ds) (put c to 3 next)
+        one =
+            let old = left .ready in
+            turned-beside b (left .f) to next last (left .ds) c (old .built)
+            (ready-fresh (put b to 3 last) to next (left .ds) (left .qs) next old)
+            (subst (λ (x : ℕ). TakenOver b (left .f) to x last c) same
+            (turned (left .f) (left .suffixes)))
 
-      pub turning-more : (sums' : List ℕ) → ((f : ℕ → ℕ) → Suffixes f sums → Suffixes (after b f r) sums') → length c ≡ length b → n < 4_294_967_296 → Turning a from to c sums' n
-      turning-more sums' passed long fits =
-          record {
-            rs = left .rs;
-            linked = left .linked;
-            ds = next ∷ left .ds;
-            qs = left .qs;
-            ready = ready;
-            f = after b (left .f) next;
-            suffixes =
-                subst (λ (x : ℕ). Suffixes (after b (left .f) x) sums') same (passed (left .f) (left .suffixes));
-            rest =
-                λ d m. left .rest d
-                (moved-more b (left .f) to next (left .ds) (left .qs) next (left .ready) c turned-next d m);
-            long = long ∙ t .long;
-            fits = fits;
-          }
+        ready : Ready (put c to 3 next) to (next ∷ left .ds) (left .qs) n
+        ready =
+            ready-more (put b to 3 last) (left .f) to next (left .ds) (left .qs) next (left .ready) (put c to 3 next) one n e-next
+
+        pub turning-less : count 512 (put c to 3 next) n < count 512 (put b to 3 last) next
+        turning-less =
+            let old = left .ready in
+            let new = ready in
+            let x = count-is 512 (put b to 3 last) (next ∷ left .qs) next (old .chain) (old .next-is) (old .few) in
+            let y = count-is 512 (put c to 3 next) (left .qs) n (new .chain) (new .next-is) (new .few) in
+            omega arith
+
+        pub turning-more : (sums' : List ℕ) → ((f : ℕ → ℕ) → Suffixes f sums → Suffixes (after b f r) sums') → length c ≡ length b → n < 4_294_967_296 → Turning a from to c next sums' n
+        turning-more sums' passed long fits =
+            record {
+              rs = left .rs;
+              linked = left .linked;
+              ds = next ∷ left .ds;
+              qs = left .qs;
+              ready = ready;
+              f = after (put b to 3 last) (left .f) next;
+              suffixes =
+                  passed-kept (put b to 3 last) b (left .f) next sums' (sym (kept 0 (λ e. omega arith) (omega arith)))
+                  (λ k few. sym (kept (11 + k) (λ e. omega arith) (omega arith)))
+                  (subst (λ (x : ℕ). Suffixes (after b (left .f) x) sums') same (passed (left .f) (left .suffixes)));
+              rest =
+                  λ d m. left .rest d
+                  (moved-more (put b to 3 last) (left .f) to next (left .ds) (left .qs) next (left .ready) (put c to 3 next) one d m);
+              long = long ∙ t .long;
+              fits = fits;
+            }
 
 left-none : (b : List ℕ) (h : ℕ) (ds qs : List ℕ) (next : ℕ) → Ready b h ds qs next → next ≡ 0 → qs ≡ []
 left-none b h ds [] next ready e = refl
@@ -159,17 +190,19 @@ left-none b h ds (q ∷ qs) next ready e =
     let some = ready .chain .0 .some in
     absurd (omega arith)
 
-moved-all : (a : List ℕ) (from to : ℕ) (b sums : List ℕ) (next : ℕ) (t : Turning a from to b sums next) → next ≡ 0 → Moved a (adjust a from) to [] (t .rs) b
-moved-all a from to b sums next t e =
-    t .rest b
-    (subst (λ (qs : List ℕ). Moved b (t .f) to (t .ds) qs b) (sym (left-none b to (t .ds) (t .qs) next (t .ready) e))
-    (moved-none b (t .f) to (t .ds) (t .ready .built)))
+moved-all : (a : List ℕ) (from to : ℕ) (b : List ℕ) (last : ℕ) (sums : List ℕ) (next : ℕ) (t : Turning a from to b last sums next) → next ≡ 0 → Moved a (adjust a from) to [] (t .rs) (put b to 3 last)
+moved-all a from to b last sums next t e =
+    let d = put b to 3 last in
+    t .rest d
+    (subst (λ (qs : List ℕ). Moved d (t .f) to (t .ds) qs d) (sym (left-none d to (t .ds) (t .qs) next (t .ready) e))
+    (moved-none d (t .f) to (t .ds) (t .ready .built)))
 
-pub turning-done : (a : List ℕ) (from to : ℕ) (b c sums : List ℕ) (next : ℕ) → ((i : ℕ) → getD a i 0 < 4_294_967_296) → Cleared a to b → Turning b from to c sums next → next ≡ 0 → (rs : List ℕ) → Turnable a from to rs → Turned a from to rs c
+pub turning-done : (a : List ℕ) (from to : ℕ) (b d : List ℕ) (last : ℕ) (sums : List ℕ) (next : ℕ) → ((i : ℕ) → getD a i 0 < 4_294_967_296) → Cleared a to b → Turning b from to d last sums next → next ≡ 0 → (c : List ℕ) → c ≡ put d to 3 last → (rs : List ℕ) → Turnable a from to rs → Turned a from to rs c
 unfolding trues word
-turning-done a from to b c sums next small cleared t e rs k =
+turning-done a from to b d last sums next small cleared t e c stored rs k =
     let linked = linked-cleared a from to rs b k cleared in
-    let m : Moved b (adjust b from) to [] rs c = subst (λ (ss : List ℕ). Moved b (adjust b from) to [] ss c) (one-list b from (t .rs) rs (t .linked) linked) (moved-all b from to c sums next t e) in
+    let all : Moved b (adjust b from) to [] (t .rs) c = subst (Moved b (adjust b from) to [] (t .rs)) (sym stored) (moved-all b from to d last sums next t e) in
+    let m : Moved b (adjust b from) to [] rs c = subst (λ (ss : List ℕ). Moved b (adjust b from) to [] ss c) (one-list b from (t .rs) rs (t .linked) linked) all in
     let same = rest-same a from to rs b k cleared in
     let head = head-same a from to rs b k cleared in
     record {

@@ -8,11 +8,10 @@ use lib.ListN.{length}
 use Rattle.arena.specs.Arena.{word, level, mWord, pWord}
 use Rattle.arena.specs.Lazy.{nextWith}
 use Rattle.arena.specs.Chain.{All, Away, Member, Chain, after, trues, Same}
-use Rattle.arena.specs.Building.{Built}
-use Rattle.arena.specs.Turning.{turned1}
+use Rattle.arena.specs.Building.{Built, Fresh}
 use Rattle.arena.proofs.PutLaws.{same-refl, same-trans}
 use Rattle.arena.proofs.Frames.{all-map, all-refl, all-both, map-same, same-shape, same-value, next-frame, chain-frame, trues-frame}
-use Rattle.arena.proofs.Swaps.{Turned1, turned-one}
+use Rattle.arena.proofs.Swaps.{Turned1}
 
 -- The arena b is a with the records qs turned, one by one, to before the list ds of the head h.
 pub record Moved (a : List ℕ) (f : ℕ → ℕ) (h : ℕ) (ds qs b : List ℕ) : Type 0 where
@@ -48,23 +47,23 @@ moved-none a f h ds built =
       true-p = refl;
     }
 
+-- The first record left can stand before the list.
+pub ready-fresh : (a : List ℕ) (h r : ℕ) (ds qs : List ℕ) (next : ℕ) → Ready a h ds (r ∷ qs) next → Fresh a h r ds
+ready-fresh a h r ds qs next ready =
+    let member = ready .chain .0 in
+    record {
+      some = member .some;
+      has = member .has;
+      low = member .low;
+      high = member .high;
+      apart = ready .apart .0;
+      away = ready .cross .0;
+    }
+
 -- One more record.
-module _ (a : List ℕ) (f : ℕ → ℕ) (h r : ℕ) (ds qs : List ℕ) (next : ℕ) (ready : Ready a h ds (r ∷ qs) next) (b : List ℕ) (e : b ≡ turned1 a f h r) where
+module _ (a : List ℕ) (f : ℕ → ℕ) (h r : ℕ) (ds qs : List ℕ) (next : ℕ) (ready : Ready a h ds (r ∷ qs) next) (b : List ℕ) (one : Turned1 a f h r ds b) where
   member : Member a r qs
   member = ready .chain .0
-
-  one : Turned1 a f h r ds b
-  one =
-      turned-one a f h r ds (ready .built)
-      (record {
-        some = member .some;
-        has = member .has;
-        low = member .low;
-        high = member .high;
-        apart = ready .apart .0;
-        away = ready .cross .0;
-      })
-      b e
 
   left-same : All (Same a b) qs
   left-same = all-both qs (one .outside) (ready .apart .1) (member .away)

@@ -1,7 +1,7 @@
 -- How a list of records is built at a head, from its last record to its first. No public contract cites it.
 use mathlib.Core.Path.{_≡_}
 use mathlib.Core.List.{List, [], _∷_}
-use Prim.Native.Nat.{ℕ, zero, suc, _+_, _%_, _^_, _≤_, _<_}
+use Prim.Native.Nat.{ℕ, _+_, _%_, _^_, _≤_, _<_}
 use lib.ListN.{length}
 use Rattle.arena.specs.Arena.{word, level, pWord, forward, adjust}
 use Rattle.arena.specs.Chain.{Has, put, Away, Linked, trues, Same}
@@ -10,15 +10,24 @@ use Rattle.arena.specs.Chain.{Has, put, Away, Linked, trues, Same}
 unfoldable pub hook1 : List ℕ → ℕ → ℕ → ℕ → List ℕ
 hook1 a h r k = put (put (put a r (3 + k) (forward a h k)) r (11 + k) 0) h (3 + k) r
 
--- The first n links of record r before what follows the head h.
-unfoldable pub hooked : ℕ → List ℕ → ℕ → ℕ → List ℕ
-hooked zero a h r = a
-hooked (suc n) a h r = hook1 (hooked n a h r) h r n
+-- The arena b is a with the links of record r from l up to n put before what follows the head h. The adjust of link 0 need not be 0, since it counts for no true p.
+pub record Hooked (l n : ℕ) (a : List ℕ) (h r : ℕ) (b : List ℕ) : Type 0 where
+  pub long : length b ≡ length a
+  pub outside : (x : ℕ) → (x ≡ h → ⊥) → (x ≡ r → ⊥) → Same a b x
+  pub low : (x j : ℕ) → j < 3 → word b x j ≡ word a x j
+  pub head-new : (k : ℕ) → l ≤ k → k < n → forward b h k ≡ r
+  pub head-old : (k : ℕ) → (l ≤ k → k < n → ⊥) → k < 8 → forward b h k ≡ forward a h k
+  pub head-adjust : (k : ℕ) → k < 8 → adjust b h k ≡ adjust a h k
+  pub new-forward : (k : ℕ) → l ≤ k → k < n → forward b r k ≡ forward a h k
+  pub new-adjust : (k : ℕ) → 1 ≤ k → l ≤ k → k < n → adjust b r k ≡ 0
+  pub old-forward : (k : ℕ) → k < l → k < 8 → forward b r k ≡ forward a r k
+  pub old-adjust : (k : ℕ) → k < l → k < 8 → adjust b r k ≡ adjust a r k
 
--- The arena has the head h and the record r, whose number fits a word.
+-- The arena has the head h and another record r, whose number fits a word.
 pub record Hookable (a : List ℕ) (h r : ℕ) : Type 0 where
   pub head-has : Has a h
   pub has : Has a r
+  pub apart : r ≡ h → ⊥
   pub fits : r < 4_294_967_296
 
 -- A list that is being built: the records rs are the list of the head h, whose adjusts are 0.

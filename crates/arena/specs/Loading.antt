@@ -7,7 +7,7 @@ use Rattle.slicing.specs.Item.{Item}
 use Rattle.facefile.specs.Sizes.{sizesIn}
 use Rattle.arena.specs.Arena.{stride, level, mWord}
 use Rattle.arena.specs.Chain.{Has, put, Away, trues, Same}
-use Rattle.arena.specs.Building.{hooked, Built}
+use Rattle.arena.specs.Building.{Hooked, Built}
 
 -- The n numbers from r on.
 unfoldable pub numbers : ℕ → ℕ → List ℕ
@@ -18,9 +18,9 @@ numbers r (suc n) = r ∷ numbers (suc r) n
 unfoldable pub written : List ℕ → ℕ → ℕ → ℕ → ℕ → List ℕ
 written a r l m p = put (put (put a r 0 l) r 1 m) r 2 p
 
--- Record r, so written, before the list of the head h.
-unfoldable pub loaded1 : List ℕ → ℕ → ℕ → ℕ → ℕ → ℕ → List ℕ
-loaded1 a h r l m p = hooked l (written a r l m p) h r
+-- The arena b is a with record r, so written, before the list of the head h. The head's first forward stands beside the arena: it is `last` at a, and r at b.
+abbrev pub Placed : List ℕ → ℕ → ℕ → ℕ → ℕ → ℕ → ℕ → List ℕ → Type 0
+Placed a h r last l m p b = Hooked 1 l (put (written a r l m p) r 3 last) h r b
 
 -- The arena has the head and a record for each level, and there are four bytes for each.
 pub record Loadable (a : List ℕ) (head first : ℕ) (sizes levels : List ℕ) : Type 0 where

@@ -6,7 +6,7 @@ use lib.ListN.{length, getD}
 use Rattle.arena.specs.Arena.{level, mWord, pWord, adjust}
 use Rattle.arena.specs.Lazy.{sumFrom}
 use Rattle.arena.specs.Chain.{Has, put, All, Away, Linked, pUnder, trues, Same}
-use Rattle.arena.specs.Building.{hooked, Hookable, Built}
+use Rattle.arena.specs.Building.{Hooked, Hookable, Built}
 
 -- The running sums f as nine words: word l is the sum over the links from l up. Word 0 is not said, since a record has a level of 1 or more and its true p counts no link below it.
 pub record Suffixes (f : ℕ → ℕ) (sums : List ℕ) : Type 0 where
@@ -30,11 +30,11 @@ pub record Enterable (a : List ℕ) (h : ℕ) (sums : List ℕ) : Type 0 where
 unfoldable pub swapped : List ℕ → (ℕ → ℕ) → ℕ → List ℕ
 swapped a f r = put (put a r 1 (pUnder a f r)) r 2 (mWord a r)
 
--- Record r, so swapped, before the list of the head h.
-unfoldable pub turned1 : List ℕ → (ℕ → ℕ) → ℕ → ℕ → List ℕ
-turned1 a f h r = hooked (level a r) (swapped a f r) h r
+-- The arena b is a with record r, so swapped, before the list of the head h. The head's first forward stands beside the arena: it is `last` at a, and r at b.
+abbrev pub TakenOver : List ℕ → (ℕ → ℕ) → ℕ → ℕ → ℕ → List ℕ → Type 0
+TakenOver a f h r last b = Hooked 1 (level a r) (put (swapped a f r) r 3 last) h r b
 
--- The arena has the head h, and record r can be swapped and put before its list.
+-- The arena has the head h, and record r, which the sums lead to, can be put before its list.
 pub record Turnable1 (a : List ℕ) (h r : ℕ) (sums : List ℕ) : Type 0 where
   pub hookable : Hookable a h r
   pub summable : Summable a r sums

@@ -2,14 +2,14 @@
 ghost use mathlib.Core.Path.{_≡_};
 ghost use Prim.Native.Nat.{_≤_, _<_};
 ghost use Rattle.arena.specs.Arena.{level};
-ghost use Rattle.arena.specs.Building.{hook1, hooked, Hookable};
+ghost use Rattle.arena.specs.Building.{hook1, Hooked, Hookable};
 use crate::words::get;
 use crate::words::store;
 use crate::words::wide;
 
 // Puts link k of record r between the head and what follows the head by it. The adjust is that of a head whose adjusts
 // are 0, so that the true p of what follows stays.
-fn hook(arena: &mut [u32], head: usize, r: usize, k: usize)
+pub fn hook(arena: &mut [u32], head: usize, r: usize, k: usize)
     requires { ⌜ Hookable (now arena) head r × (k < 8) ⌝ }
     ensures { λ _. ⌜ now (arena .exit) ≡ hook1 (now (arena .entry)) head r k ⌝ }
 {
@@ -19,15 +19,15 @@ fn hook(arena: &mut [u32], head: usize, r: usize, k: usize)
     store(arena, head, 3 + k, r as u32);
 }
 
-// Puts record r, by each link that it has, before the list of a head.
+// Puts record r, by each link from 1 up that it has, before the list of a head. Link 0 is the caller's.
 pub fn prepend(arena: &mut [u32], head: usize, r: usize)
-    requires { ⌜ Hookable (now arena) head r × (level (now arena) r ≤ 8) ⌝ }
-    ensures { λ _. ⌜ now (arena .exit) ≡ hooked (level (now (arena .entry)) r) (now (arena .entry)) head r ⌝ }
+    requires { ⌜ Hookable (now arena) head r × (1 ≤ level (now arena) r) × (level (now arena) r ≤ 8) ⌝ }
+    ensures { λ _. ⌜ Hooked 1 (level (now (arena .entry)) r) (now (arena .entry)) head r (now (arena .exit)) ⌝ }
 {
-    let level = wide(get(arena, r, 0));
-    let mut k = 0;
-    while k < level {
+    let mut l = wide(get(arena, r, 0));
+    while 1 < l {
+        let k = l - 1;
         hook(arena, head, r, k);
-        k += 1;
+        l = k;
     }
 }

@@ -1,33 +1,50 @@
 // Turning a list: m and p change places and the order reverses.
-ghost use mathlib.Core.Path.{_≡_};
 ghost use mathlib.Core.List.{List};
 ghost use Prim.Native.Nat.{ℕ};
+ghost use Rattle.arena.specs.Arena.{level};
 ghost use Rattle.arena.specs.Chain.{after};
-ghost use Rattle.arena.specs.Turning.{Suffixes, turned1, Turnable1, Turnable, Turned};
+ghost use Rattle.arena.specs.Building.{Hooked};
+ghost use Rattle.arena.specs.Turning.{Suffixes, TakenOver, Turnable1, Turnable, Turned};
 use crate::empty::clear_head;
-use crate::prepend::prepend;
+use crate::prepend::hook;
 use crate::sums::enter;
-use crate::sums::pass;
 use crate::sums::true_p;
 use crate::words::get;
 use crate::words::store;
 use crate::words::wide;
 
-// Takes the record that the sums lead to over to another head: its m is then its true p, and its p is its m.
-fn turn_record(arena: &mut [u32], to: usize, r: usize, sums: &mut [u32])
+// Renews the sums by a record's adjusts, as `pass` does, and puts its links from 1 up before the list of a head.
+fn turn_links(arena: &mut [u32], to: usize, r: usize, sums: &mut [u32])
     requires { ⌜ Turnable1 (now arena) to r (now sums) ⌝ }
-    ensures { λ _. ⌜ ((f : ℕ → ℕ) → Suffixes f (now (sums .entry)) → now (arena .exit) ≡ turned1 (now (arena .entry)) f to r) ⌝ }
+    ensures { λ _. ⌜ Hooked 1 (level (now (arena .entry)) r) (now (arena .entry)) to r (now (arena .exit)) ⌝ }
     ensures { λ _. ⌜ ((f : ℕ → ℕ) → Suffixes f (now (sums .entry)) → Suffixes (after (now (arena .entry)) f r) (now (sums .exit))) ⌝ }
 {
-    let p = true_p(arena, r, sums);
-    let m = get(arena, r, 1);
-    pass(arena, r, sums);
-    store(arena, r, 1, p);
-    store(arena, r, 2, m);
-    prepend(arena, to, r);
+    let mut l = wide(get(arena, r, 0));
+    while 1 < l {
+        let k = l - 1;
+        sums[k] = std::num::wrapping_add_u32(sums[l], get(arena, r, 11 + k));
+        hook(arena, to, r, k);
+        l = k;
+    }
 }
 
-// Turns the list of one head into that of another, which is made anew. The old head's words stay.
+// Takes the record that the sums lead to over to another head: its m is then its true p, its p is its m, and the record
+// after it is `last`, the first one so far of the list that is made.
+fn turn_record(arena: &mut [u32], to: usize, r: usize, last: u32, sums: &mut [u32])
+    requires { ⌜ Turnable1 (now arena) to r (now sums) ⌝ }
+    ensures { λ _. ⌜ ((f : ℕ → ℕ) → Suffixes f (now (sums .entry)) → TakenOver (now (arena .entry)) f to r last (now (arena .exit))) ⌝ }
+    ensures { λ _. ⌜ ((f : ℕ → ℕ) → Suffixes f (now (sums .entry)) → Suffixes (after (now (arena .entry)) f r) (now (sums .exit))) ⌝ }
+{
+    let m = get(arena, r, 1);
+    let p = true_p(arena, r, sums);
+    store(arena, r, 1, p);
+    store(arena, r, 2, m);
+    store(arena, r, 3, last);
+    turn_links(arena, to, r, sums);
+}
+
+// Turns the list of one head into that of another, which is made anew. The old head's words stay. The new head's first
+// forward is kept beside the arena and stored at the end.
 pub fn turn(arena: &mut [u32], from: usize, to: usize)
     requires { ⌜ ((rs : List ℕ) × Turnable (now arena) from to rs) ⌝ }
     ensures { λ _. ⌜ ((rs : List ℕ) → Turnable (now (arena .entry)) from to rs → Turned (now (arena .entry)) from to rs (now (arena .exit))) ⌝ }
@@ -36,9 +53,13 @@ pub fn turn(arena: &mut [u32], from: usize, to: usize)
     let mut sums = [0u32; 9];
     enter(arena, from, &mut sums);
     let mut next = get(arena, from, 3);
+    let mut last = 0;
     while next != 0 {
         let r = wide(next);
-        next = get(arena, r, 3);
-        turn_record(arena, to, r, &mut sums);
+        let after = get(arena, r, 3);
+        turn_record(arena, to, r, last, &mut sums);
+        last = next;
+        next = after;
     }
+    store(arena, to, 3, last);
 }

@@ -1,16 +1,17 @@
 -- `arena::load::load` meets its contract.
 -- The loop keeps `Loading`, that the sizes from i on are the list of the head; the measure is i.
 use borrow.Author.Needs.{needs}
+use Prim.Native.Nat.{_-_}
 use native.Mathlib.Omega.{arith}
-use Rattle.arena.proofs.Loads.{Loading, loading-start, loading-high, loading-more, loading-done}
+use Rattle.arena.proofs.Loads.{Loading, loading-start, loading-low, loading-high, loading-more, loading-done}
 use Rattle.arena.proofs.load.load.Statement.{statement}
 use Rattle.arena.proofs.load.load.Tie as tie
 
 abbrev Inv-loop : tie.InvT-loop
-Inv-loop arena₀ head first sizes levels i₀ arena i = Loading arena₀ head first sizes levels arena i
+Inv-loop arena₀ head first sizes levels last₀ i₀ arena last i = Loading arena₀ head first sizes levels arena last i
 
 abbrev μ-loop : tie.MeasureT-loop
-μ-loop arena₀ head first sizes levels i₀ arena i = i
+μ-loop arena₀ head first sizes levels last₀ i₀ arena last i = i
 
 clear-head-requires : tie.Need-clear-head-requires Inv-loop μ-loop
 clear-head-requires c κs = search needs
@@ -42,13 +43,21 @@ add-field c = search needs
 field-requires-2 : tie.Need-field-requires-2 Inv-loop μ-loop
 field-requires-2 c κs = search needs
 
-add-load-record : tie.Need-add-load-record Inv-loop μ-loop
-add-load-record c = search needs
+add-r : tie.Need-add-r Inv-loop μ-loop
+add-r c = search needs
 
 load-record-requires : tie.Need-load-record-requires Inv-loop μ-loop
 load-record-requires c κs =
-    let high = loading-high _ _ _ _ _ _ _ (c .before .before .before .before .before .before .loop .inv .can) (omega arith) (c .before .before .before .word-of .ensures .0) in
+    let at-word-of = c .before .before .before in
+    let at-loop = at-word-of .before .before .before in
+    let can = at-loop .loop .inv .can in
+    let low = loading-low _ _ _ _ _ _ _ can (omega arith) (at-word-of .word-of .ensures .0) in
+    let high = loading-high _ _ _ _ _ _ _ can (omega arith) (at-word-of .word-of .ensures .0) in
+    let apart = can .apart (at-loop .loop .i - 1) (omega arith) in
     search needs
+
+cast-last : tie.Need-cast-last Inv-loop μ-loop
+cast-last c = search needs
 
 loop-less : tie.Need-loop-less Inv-loop μ-loop
 loop-less c = search needs
@@ -60,7 +69,10 @@ loop-again c =
     let at-word-of = at-field .before in
     let at-loop-test = at-word-of .before .before in
     let at-loop = at-loop-test .before in
-    loading-more _ _ _ _ _ _ _ (at-loop .loop .inv) (at-loop-test .loop-test .taken) _ _ _ _ (at-word-of .word-of .ensures .0) (at-field .field .ensures .0) (at-field2 .field2 .ensures .0) (at-field2 .field2 .ensures .1) (c .before .before .load-record .ensures)
+    loading-more _ _ _ _ _ _ _ _ (at-loop .loop .inv) (at-loop-test .loop-test .taken) _ _ _ _ (at-word-of .word-of .ensures .0) (at-field .field .ensures .0) (at-field2 .field2 .ensures .0) (at-field2 .field2 .ensures .1) (c .before .before .load-record .ensures)
+
+store-requires : tie.Need-store-requires Inv-loop μ-loop
+store-requires c κs = search needs
 
 same-length : tie.Need-same-length Inv-loop μ-loop
 same-length c = search needs
@@ -84,9 +96,11 @@ load-spec =
     mul-field-2
     add-field
     field-requires-2
-    add-load-record
+    add-r
     load-record-requires
+    cast-last
     loop-less
     loop-again
+    store-requires
     same-length
     returns)

@@ -1,16 +1,15 @@
 -- `arena::prepend::prepend` meets its contract.
--- The loop keeps `Prepending`, that the first k links are hooked; the measure is what is left of the level.
+-- The loop keeps `Prepending`, that the links from l up are hooked; the measure is l.
 use borrow.Author.Needs.{needs}
-use Prim.Native.Nat.{_-_}
 use Rattle.arena.proofs.HookLaws.{Prepending, prepending-start, prepending-more, prepending-done}
 use Rattle.arena.proofs.prepend.prepend.Statement.{statement}
 use Rattle.arena.proofs.prepend.prepend.Tie as tie
 
 abbrev Inv-loop : tie.InvT-loop
-Inv-loop arena₀ head r level k₀ arena k = Prepending arena₀ head r level arena k
+Inv-loop arena₀ head r l₀ arena l = Prepending arena₀ head r arena l
 
 abbrev μ-loop : tie.MeasureT-loop
-μ-loop arena₀ head r level k₀ arena k = level - k
+μ-loop arena₀ head r l₀ arena l = l
 
 get-requires : tie.Need-get-requires Inv-loop μ-loop
 get-requires c κs = search needs
@@ -21,11 +20,11 @@ wide-requires c κs = search needs
 loop-holds : tie.Need-loop-holds Inv-loop μ-loop
 loop-holds c = search (needs, prepending-start)
 
+sub-k : tie.Need-sub-k Inv-loop μ-loop
+sub-k c = search needs
+
 hook-requires : tie.Need-hook-requires Inv-loop μ-loop
 hook-requires c κs = search needs
-
-add-k : tie.Need-add-k Inv-loop μ-loop
-add-k c = search needs
 
 loop-less : tie.Need-loop-less Inv-loop μ-loop
 loop-less c = search needs
@@ -48,8 +47,8 @@ prepend-spec =
     get-requires
     wide-requires
     loop-holds
+    sub-k
     hook-requires
-    add-k
     loop-less
     loop-again
     same-length

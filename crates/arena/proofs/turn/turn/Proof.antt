@@ -1,16 +1,17 @@
 -- `arena::turn::turn` meets its contract.
 -- The loop keeps `Turning`, that all records are turned if those left are; the measure is their number, counted along the first link.
 use borrow.Author.Needs.{needs}
+use Rattle.arena.specs.Chain.{put}
 use Rattle.arena.proofs.Walking.{count}
-use Rattle.arena.proofs.TurnWalk.{Turning, cleared-enterable, turning-start, turning-has, turning-can, turning-less, turning-more, turning-done}
+use Rattle.arena.proofs.TurnWalk.{Turning, cleared-enterable, turning-start, turning-head, turning-has, turning-can, turning-less, turning-more, turning-done}
 use Rattle.arena.proofs.turn.turn.Statement.{statement}
 use Rattle.arena.proofs.turn.turn.Tie as tie
 
 abbrev Inv-loop : tie.InvT-loop
-Inv-loop arena₀ from to sums₀ next₀ arena sums next = Turning arena₀ from to arena sums next
+Inv-loop arena₀ from to sums₀ next₀ last₀ arena sums next last = Turning arena₀ from to arena last sums next
 
 abbrev μ-loop : tie.MeasureT-loop
-μ-loop arena₀ from to sums₀ next₀ arena sums next = count 512 arena next
+μ-loop arena₀ from to sums₀ next₀ last₀ arena sums next last = count 512 (put arena to 3 last) next
 
 clear-head-requires : tie.Need-clear-head-requires Inv-loop μ-loop
 clear-head-requires c κs = search needs
@@ -45,22 +46,41 @@ turn-record-requires c κs =
     let at-wide = c .before .before .before .before in
     let at-loop-test = at-wide .before in
     let at-loop = at-loop-test .before in
-    turning-can _ _ _ _ _ _ (at-loop .loop .inv) (at-loop-test .loop-test .taken) _ (at-wide .wide .ensures)
+    turning-can _ _ _ _ _ _ _ (at-loop .loop .inv) (at-loop-test .loop-test .taken) _ (at-wide .wide .ensures)
 
 loop-less : tie.Need-loop-less Inv-loop μ-loop
-loop-less c = search (needs, turning-less)
+loop-less c =
+    let at-turn-record = c .before .before .before in
+    let at-get2 = at-turn-record .before .before .before in
+    let at-wide = at-get2 .before .before in
+    let at-loop-test = at-wide .before in
+    let at-loop = at-loop-test .before in
+    turning-less _ _ _ _ _ _ _ (at-loop .loop .inv) (at-loop-test .loop-test .taken) _ (at-wide .wide .ensures) _ (at-get2 .get2 .ensures) _ (at-turn-record .turn-record .ensures .0)
 
 loop-again : tie.Need-loop-again Inv-loop μ-loop
-loop-again c = search (needs, turning-more)
+loop-again c =
+    let at-turn-record = c .before .before .before in
+    let at-get2 = at-turn-record .before .before .before in
+    let at-wide = at-get2 .before .before in
+    let at-loop-test = at-wide .before in
+    let at-loop = at-loop-test .before in
+    turning-more _ _ _ _ _ _ _ (at-loop .loop .inv) (at-loop-test .loop-test .taken) _ (at-wide .wide .ensures) _ (at-get2 .get2 .ensures) _ (at-turn-record .turn-record .ensures .0) _ (at-turn-record .turn-record .ensures .1) (search needs) (search needs)
+
+store-requires : tie.Need-store-requires Inv-loop μ-loop
+store-requires c κs = search (needs, turning-head)
 
 same-length : tie.Need-same-length Inv-loop μ-loop
 same-length c = search needs
 
 returns : tie.Need-returns Inv-loop μ-loop
 returns c =
-    let at-clear-head = c .before .before .before .before .before .before .before .before .before .before in
+    let at-store = c .before .before in
+    let at-loop-test = at-store .before .before in
+    let at-loop = at-loop-test .before in
+    let at-enter = at-loop .before .before .before .before in
+    let at-clear-head = at-enter .before .before .before .before .before in
     let at-slice-known = at-clear-head .before .before in
-    turning-done _ _ _ _ _ _ _ (λ i. at-slice-known .slice-known .given i .fits) (at-clear-head .clear-head .ensures) (c .before .loop .inv) (c .loop-test .left)
+    turning-done _ _ _ _ _ _ _ _ (λ i. at-slice-known .slice-known .given i .fits) (at-clear-head .clear-head .ensures) (at-loop .loop .inv) (at-loop-test .loop-test .left) _ (at-store .store .ensures)
 
 pub turn-spec : {M : Type 1} → statement M
 turn-spec =
@@ -79,5 +99,6 @@ turn-spec =
     turn-record-requires
     loop-less
     loop-again
+    store-requires
     same-length
     returns)
