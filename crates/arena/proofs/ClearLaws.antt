@@ -1,5 +1,5 @@
 -- What clearing a head leaves: the head of an empty list, and every other record as before.
--- Each turn of the loop sets one more word from 3 on to 0, and no store reaches another record.
+-- Each turn of the loop sets one more word from 1 on to 0, and no store reaches another record.
 use mathlib.Core.Path.{_≡_, refl, subst, sym, _∙_}
 use mathlib.Core.List.{List}
 use Prim.Native.Nat.{ℕ, _+_, _≤_, _<_}
@@ -13,16 +13,16 @@ use Rattle.arena.specs.Building.{Cleared}
 use Rattle.arena.proofs.Cases.{last-or-below}
 use Rattle.arena.proofs.PutLaws.{length-put, word-same, word-other-record, word-other-field, put-same, same-refl}
 
--- What the loop keeps: words 3 to j - 1 of the head are 0.
+-- What the loop keeps: words 1 to j - 1 of the head are 0.
 pub record Clearing (a : List ℕ) (h : ℕ) (b : List ℕ) (j : ℕ) : Type 0 where
-  pub from : 3 ≤ j
+  pub from : 1 ≤ j
   pub inside : j ≤ stride
   pub has : Has b h
   pub long : length b ≡ length a
   pub outside : (x : ℕ) → (x ≡ h → ⊥) → Same a b x
-  pub zero : (i : ℕ) → 3 ≤ i → i < j → word b h i ≡ 0
+  pub zero : (i : ℕ) → 1 ≤ i → i < j → word b h i ≡ 0
 
-pub clearing-start : (a : List ℕ) (h : ℕ) → Has a h → Clearing a h a 3
+pub clearing-start : (a : List ℕ) (h : ℕ) → Has a h → Clearing a h a 1
 clearing-start a h has =
     record {
       from = omega arith;
@@ -55,7 +55,7 @@ pub clearing-done : (a : List ℕ) (h : ℕ) (b c : List ℕ) (j : ℕ) → Clea
 unfolding nextWith
 clearing-done a h b c j s done e = subst (λ (d : List ℕ). Cleared a h d) (sym e) topped
   where
-    zeros : (i : ℕ) → 3 ≤ i → i < stride → word (put b h 0 8) h i ≡ 0
+    zeros : (i : ℕ) → 1 ≤ i → i < stride → word (put b h 0 8) h i ≡ 0
     zeros i p q =
         word-other-field b h 0 8 h i (λ f. omega arith) (omega arith) q ∙ s .zero i p (omega arith)
 
@@ -70,6 +70,7 @@ clearing-done a h b c j s done e = subst (λ (d : List ℕ). Cleared a h d) (sym
           long = l ∙ s .long;
           outside =
               λ x p. record { at = λ i w. word-other-record b h 0 8 x i p (omega arith) w ∙ s .outside x p .at i w };
+          floor = zeros 1 (omega arith) (omega arith);
           built =
               record {
                 linked =

@@ -60,7 +60,7 @@ pub record HeldFrom (l : ℕ) (f : ℕ → ℕ) (sums : List ℕ) : Type 0 where
   pub at : (i : ℕ) → l ≤ i → 1 ≤ i → i ≤ 8 → getD sums i 0 ≡ sumFrom f i 8 % 2 ^ 32
 
 -- One word more: the sum from a link up is that link and the sum above it.
-held-more : (l : ℕ) (f : ℕ → ℕ) (sums : List ℕ) → HeldFrom l f sums → 1 < l → l ≤ 8 → length sums ≡ 9 → (x v w : ℕ) → x ≡ getD sums l 0 → v ≡ f (l - 1) → w ≡ (x + v) % 2 ^ 32 → HeldFrom (l - 1) f (set sums (l - 1) w)
+pub held-more : (l : ℕ) (f : ℕ → ℕ) (sums : List ℕ) → HeldFrom l f sums → 1 < l → l ≤ 8 → length sums ≡ 9 → (x v w : ℕ) → x ≡ getD sums l 0 → v ≡ f (l - 1) → w ≡ (x + v) % 2 ^ 32 → HeldFrom (l - 1) f (set sums (l - 1) w)
 held-more l f sums s less high nine x v w x-is v-is w-is =
     record {
       at =

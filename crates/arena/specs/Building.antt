@@ -3,7 +3,7 @@ use mathlib.Core.Path.{_≡_}
 use mathlib.Core.List.{List, [], _∷_}
 use Prim.Native.Nat.{ℕ, _+_, _%_, _^_, _≤_, _<_}
 use lib.ListN.{length}
-use Rattle.arena.specs.Arena.{word, level, pWord, forward, adjust}
+use Rattle.arena.specs.Arena.{word, level, mWord, pWord, forward, adjust}
 use Rattle.arena.specs.Chain.{Has, put, Away, Linked, trues, Same}
 
 -- Link k of record r before what follows the head h: r takes the head's forward, and the head's forward is r.
@@ -56,4 +56,5 @@ pub record Prepended (a : List ℕ) (h r : ℕ) (rs : List ℕ) (b : List ℕ) :
 pub record Cleared (a : List ℕ) (h : ℕ) (b : List ℕ) : Type 0 where
   pub long : length b ≡ length a
   pub outside : (x : ℕ) → (x ≡ h → ⊥) → Same a b x
+  pub floor : mWord b h ≡ 0
   pub built : Built b h []

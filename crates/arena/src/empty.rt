@@ -4,12 +4,12 @@ ghost use Rattle.arena.specs.Building.{Cleared};
 use crate::STRIDE;
 use crate::words::store;
 
-// Makes a record the head of an empty list: level 8, and every forward and adjust 0.
+// Makes a record the head of an empty list: level 8, and every other word 0.
 pub fn clear_head(arena: &mut [u32], head: usize)
     requires { ⌜ Has (now arena) head ⌝ }
     ensures { λ _. ⌜ Cleared (now (arena .entry)) head (now (arena .exit)) ⌝ }
 {
-    let mut j = 3;
+    let mut j = 1;
     while j < STRIDE {
         store(arena, head, j, 0);
         j += 1;

@@ -12,16 +12,17 @@ use Rattle.arena.specs.Chain.{Has, wrap, All, Away, Linked, pUnder, after, true
 use Rattle.arena.specs.Turning.{Suffixes}
 use Rattle.arena.proofs.Cases.{lt-or-ge}
 use Rattle.arena.proofs.ListLaws.{all-left, all-right, last-none, last-append, last-all, last-inside, leaving-last}
+use Rattle.arena.proofs.Summing.{suffixes-agree}
 use Rattle.arena.proofs.PutLaws.{same-trans}
 use Rattle.arena.proofs.Frames.{all-map, all-refl, all-both, same-value, next-frame, linked-frame, trues-frame, last-frame}
 use Rattle.merging.specs.Cut.{front, LinkCount, CutAt}
 use Rattle.merging.specs.Open.{Relinkable, Relinked}
-use Rattle.merging.specs.Cached.{Cached, renewed, Renewable}
-use Rattle.merging.specs.Settled.{lastSums, Ready, Settled}
+use Rattle.merging.specs.Cached.{Cached, renewed}
+use Rattle.merging.specs.Settled.{lastSums, cutSums, Ready, Settled}
 use Rattle.merging.specs.Advance.{behind, Movable, Moved}
-use Rattle.merging.proofs.CacheLaws.{suffixes-agree, renewed-in, renewed-out}
+use Rattle.merging.proofs.CacheLaws.{renewed-in, renewed-out}
 use Rattle.merging.proofs.SearchLaws.{front-in}
-use Rattle.merging.proofs.FrontLaws.{last-has, apart-from}
+use Rattle.merging.proofs.FrontLaws.{apart-from}
 use Rattle.merging.proofs.OpenLaws.{ends-frame, open-frame}
 use Rattle.merging.proofs.ClosingLaws.{ends-has}
 use Rattle.merging.proofs.RelinkLaws.{relinked-value, relinked-same}
@@ -80,18 +81,6 @@ module _ (a : List ℕ) (h hc key : ℕ) (cs : List ℕ) (r : ℕ) (rs cutc : Li
   head-off = all-left (λ x. x ≡ h → ⊥) fr back (linked .away)
 
   module _ (n : ℕ) (l : LinkCount a key (r ∷ rs) n) (cut sums : List ℕ) (c : CutAt a h key n (r ∷ rs) cut sums) where
-    pub cut-renewable : (heads : List ℕ) → length heads ≡ 9 → Renewable a cut n heads
-    cut-renewable heads nine =
-        let few = l .few in
-        let long = c .long in
-        record {
-          high = l .few;
-          long = omega arith;
-          has = λ k less.
-              subst (λ (x : ℕ). Has a x) (sym (c .at k less)) (last-has a k h fr back (linked .has) (linked .chain));
-          nine = nine;
-        }
-
     pub can-settle : Ready a h n cut cutc fr back
     can-settle =
         let some = l .some in
@@ -139,6 +128,7 @@ module _ (a : List ℕ) (h hc key : ℕ) (cs : List ℕ) (r : ℕ) (rs cutc : Li
             head-away = w .head-away;
             result-away = subst (λ (l : List ℕ). Away hc l) whole (w .result-away);
             apart = all-map cs (λ x y. subst (λ (l : List ℕ). Away x l) whole y) (w .apart);
+            some = l .some;
             high = few;
             with-link = λ k e.
                 subst (λ (x : ℕ). 1 ≤ x) (sym (next-frame a b k fr (levels fr))) (l .with-link k e);
@@ -207,11 +197,7 @@ module _ (a : List ℕ) (h hc key : ℕ) (cs : List ℕ) (r : ℕ) (rs cutc : Li
             away-head : Away h fr
             away-head = head-off
 
-        -- The sums of the head below link n are those of the cut, and those from n up are kept, as those of the ends are.
-        head-cut : (k : ℕ) → k < n → adjust d h k ≡ adjust a (getD cut k 0) k
-        head-cut k less =
-            e .adjust-head k less ∙ c .sums-at k less ∙ ap (λ (x : ℕ). adjust a x k) (sym (c .at k less))
-
+        -- The sums of the head from link n up are kept, as those of the ends are; those below it are those of the cut.
         head-kept : (k : ℕ) → n ≤ k → k < 8 → adjust d h k ≡ adjust a h k
         head-kept k more f = e .adjust-above k more f ∙ s .outside h head-off .at (11 + k) (omega arith)
 
@@ -223,32 +209,27 @@ module _ (a : List ℕ) (h hc key : ℕ) (cs : List ℕ) (r : ℕ) (rs cutc : Li
             ∙ sym (leaving-last d k (adjust d hc) hc cs refl)
             ∙ leaving-is k f
 
-        -- So the sums that are kept are right again once those below link n are renewed.
-        pub ends-renewable : (lasts : List ℕ) → length lasts ≡ 9 → Renewable d cutd n lasts
-        ends-renewable lasts nine =
-            let few = l .few in
-            let long = e .ends .long in
-            record {
-              high = l .few;
-              long = omega arith;
-              has = λ k less. ends-has d hc (cs ++ fr) cutd (e .result) (e .ends) k (omega arith);
-              nine = nine;
-            }
+        ends-cut : (k : ℕ) → k < n → k < 8 → lastSums d cutd k ≡ lastSums b cut k
+        ends-cut k less f =
+            ap (λ (x : ℕ). adjust d x k) (e .replaced k less)
+            ∙ e .adjust-kept (getD cut k 0) k f
+            (λ is. last-inside a k (λ x. x ≡ h → ⊥) h fr (l .with-link k less) head-off (sym (c .at k less) ∙ is))
 
-        pub moved-cached : (heads lasts heads' lasts' : List ℕ) → Cached a h cutc heads lasts → ((f : ℕ → ℕ) → Suffixes f heads → Suffixes (renewed a cut n f) heads') → ((f : ℕ → ℕ) → Suffixes f lasts → Suffixes (renewed d cutd n f) lasts') → Cached d h cutd heads' lasts'
+        -- So the sums that are kept are right again once those below link n are renewed.
+        pub moved-cached : (heads lasts heads' lasts' : List ℕ) → Cached a h cutc heads lasts → ((f : ℕ → ℕ) → Suffixes f heads → Suffixes (renewed (cutSums sums) n f) heads') → ((f : ℕ → ℕ) → Suffixes f lasts → Suffixes (renewed (lastSums b cut) n f) lasts') → Cached d h cutd heads' lasts'
         moved-cached heads lasts heads' lasts' k renews-head renews-ends =
             record {
               head =
-                  suffixes-agree (renewed a cut n (adjust a h)) (adjust d h) heads'
+                  suffixes-agree (renewed (cutSums sums) n (adjust a h)) (adjust d h) heads'
                   (λ i low high.
-                  lt-or-ge i n (λ p. head-cut i p ∙ sym (renewed-in a cut n (adjust a h) i p))
-                  (λ p. head-kept i p high ∙ sym (renewed-out a cut n (adjust a h) i p)))
+                  lt-or-ge i n (λ p. e .adjust-head i p ∙ sym (renewed-in (cutSums sums) n (adjust a h) i p))
+                  (λ p. head-kept i p high ∙ sym (renewed-out (cutSums sums) n (adjust a h) i p)))
                   (renews-head (adjust a h) (k .head));
               ends =
-                  suffixes-agree (renewed d cutd n (lastSums a cutc)) (lastSums d cutd) lasts'
+                  suffixes-agree (renewed (lastSums b cut) n (lastSums a cutc)) (lastSums d cutd) lasts'
                   (λ i low high.
-                  lt-or-ge i n (λ p. sym (renewed-in d cutd n (lastSums a cutc) i p))
-                  (λ p. ends-kept i p high ∙ sym (renewed-out d cutd n (lastSums a cutc) i p)))
+                  lt-or-ge i n (λ p. ends-cut i p high ∙ sym (renewed-in (lastSums b cut) n (lastSums a cutc) i p))
+                  (λ p. ends-kept i p high ∙ sym (renewed-out (lastSums b cut) n (lastSums a cutc) i p)))
                   (renews-ends (lastSums a cutc) (k .ends));
             }
 

@@ -70,6 +70,7 @@ module _ (a : List ℕ) (k : ℕ) where
   stretch-of (x ∷ xs) ys c low = (
     record {
       has = c .0 .has;
+      low = c .0 .low;
       high = low .0;
       link = λ h. c .0 .links .at k h ∙ next-or xs ys;
       not-stop = next-other x ys (c .0 .some) (all-right (λ y. y ≡ x → ⊥) xs ys (c .0 .away));

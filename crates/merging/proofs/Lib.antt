@@ -16,6 +16,7 @@ pub mod Closing
 pub mod Advancing
 pub mod Passing
 pub mod RunLaws
+pub mod OneLaws
 pub mod CarriedLaws
 pub mod TrioLaws
 pub mod Steps

@@ -15,9 +15,9 @@ use Rattle.arena.proofs.SumLaws.{sum-agree, sum-frame}
 use Rattle.arena.proofs.Frames.{after-in, after-out}
 use Rattle.merging.specs.Lift.{Lifted}
 
--- g is f, but raised by v at k.
+-- g is f, but raised by v at k. Link 0 counts for no record, and nothing is said of it.
 pub record Bumped (k v : ℕ) (f g : ℕ → ℕ) : Type 0 where
-  pub at : g k % 2 ^ 32 ≡ (f k + v) % 2 ^ 32
+  pub at : 1 ≤ k → g k % 2 ^ 32 ≡ (f k + v) % 2 ^ 32
   pub other : (j : ℕ) → j < 8 → (j ≡ k → ⊥) → g j ≡ f j
 
 two-sums : (x y s t v : ℕ) → x ≡ s → y % 2 ^ 32 ≡ (t + v) % 2 ^ 32 → (x + y) % 2 ^ 32 ≡ (s + t + v) % 2 ^ 32
@@ -27,18 +27,18 @@ one-more : (x y s c v : ℕ) → x % 2 ^ 32 ≡ (s + v) % 2 ^ 32 → y ≡ c →
 one-more x y s c v e f = omega arith
 
 -- The sum over the links from l on, with k among them.
-sum-bumped : (f g : ℕ → ℕ) (k v l n : ℕ) → n ≤ 8 → l ≤ k → k < n → Bumped k v f g → sumFrom g l n % 2 ^ 32 ≡ (sumFrom f l n + v) % 2 ^ 32
+sum-bumped : (f g : ℕ → ℕ) (k v l n : ℕ) → n ≤ 8 → 1 ≤ k → l ≤ k → k < n → Bumped k v f g → sumFrom g l n % 2 ^ 32 ≡ (sumFrom f l n + v) % 2 ^ 32
 unfolding sumFrom
-sum-bumped f g k v l zero few low high b = absurd (omega arith)
-sum-bumped f g k v l (suc n) few low high b =
+sum-bumped f g k v l zero few some low high b = absurd (omega arith)
+sum-bumped f g k v l (suc n) few some low high b =
     last-or-below k n high
     (λ e.
     let here : leb l n ≡ true = le-leb l n (omega arith) in
-    let raised : g n % 2 ^ 32 ≡ (f n + v) % 2 ^ 32 = subst (λ (i : ℕ). g i % 2 ^ 32 ≡ (f i + v) % 2 ^ 32) e (b .at) in
+    let raised : g n % 2 ^ 32 ≡ (f n + v) % 2 ^ 32 = subst (λ (i : ℕ). g i % 2 ^ 32 ≡ (f i + v) % 2 ^ 32) e (b .at some) in
     simp here (two-sums (sumFrom g l n) (g n) (sumFrom f l n) (f n) v (sum-frame f g l n (λ j low. b .other j (omega arith) (omega arith))) raised))
     (λ p.
     one-more (sumFrom g l n) (cond (leb l n) (g n) 0) (sumFrom f l n) (cond (leb l n) (f n) 0) v
-    (sum-bumped f g k v l n (omega arith) low p b) (ap (λ (x : ℕ). cond (leb l n) x 0) (b .other n (omega arith) (omega arith))))
+    (sum-bumped f g k v l n (omega arith) some low p b) (ap (λ (x : ℕ). cond (leb l n) x 0) (b .other n (omega arith) (omega arith))))
 
 -- One record: its true p, and the sums after it.
 raise-p : (p q s v : ℕ) → q ≡ (p + v) % 2 ^ 32 → (q + s) % 2 ^ 32 ≡ ((p + s) % 2 ^ 32 + v) % 2 ^ 32
@@ -48,17 +48,17 @@ raise-sum : (p s t v : ℕ) → t % 2 ^ 32 ≡ (s + v) % 2 ^ 32 → (p + t) % 2 
 raise-sum p s t v e = omega arith
 
 module _ (a b : List ℕ) (k v : ℕ) (small : k < 8) (f g : ℕ → ℕ) (bump : Bumped k v f g) (r : ℕ) (same : level b r ≡ level a r) (l : Lifted a b k v r) where
-  pub under-lifted : level a r ≤ suc k → pUnder b g r ≡ wrap (pUnder a f r) v
+  pub under-lifted : 1 ≤ level a r → level a r ≤ suc k → pUnder b g r ≡ wrap (pUnder a f r) v
   unfolding pUnder wrap
-  under-lifted high =
+  under-lifted low high =
       lt-or-ge k (level a r)
       (λ h.
       let up : pWord b r ≡ (pWord a r + v) % 2 ^ 32 = l .p-up h in
-      let sums : sumFrom g (level b r) 8 ≡ sumFrom f (level a r) 8 = ap (λ (n : ℕ). sumFrom g n 8) same ∙ sum-agree f g (level a r) 8 (λ j low high. bump .other j high (omega arith)) in
+      let sums : sumFrom g (level b r) 8 ≡ sumFrom f (level a r) 8 = ap (λ (n : ℕ). sumFrom g n 8) same ∙ sum-agree f g (level a r) 8 (λ j from high. bump .other j high (omega arith)) in
       ap (λ (s : ℕ). (pWord b r + s) % 2 ^ 32) sums ∙ raise-p (pWord a r) (pWord b r) (sumFrom f (level a r) 8) v up)
       (λ h.
       let kept : pWord b r ≡ pWord a r = l .untouched h .at 2 (omega arith) in
-      let sums : sumFrom g (level b r) 8 % 2 ^ 32 ≡ (sumFrom f (level a r) 8 + v) % 2 ^ 32 = ap (λ (n : ℕ). sumFrom g n 8 % 2 ^ 32) same ∙ sum-bumped f g k v (level a r) 8 (omega arith) h small bump in
+      let sums : sumFrom g (level b r) 8 % 2 ^ 32 ≡ (sumFrom f (level a r) 8 + v) % 2 ^ 32 = ap (λ (n : ℕ). sumFrom g n 8 % 2 ^ 32) same ∙ sum-bumped f g k v (level a r) 8 (omega arith) (omega arith) h small bump in
       ap (λ (p : ℕ). (p + sumFrom g (level b r) 8) % 2 ^ 32) kept ∙ raise-sum (pWord a r) (sumFrom f (level a r) 8) (sumFrom g (level b r) 8) v sums)
 
   raised-here : k < level a r → adjust b r k ≡ wrap (adjust a r k) v → after b g r k % 2 ^ 32 ≡ (after a f r k + v) % 2 ^ 32
@@ -72,10 +72,10 @@ module _ (a b : List ℕ) (k v : ℕ) (small : k < 8) (f g : ℕ → ℕ) (bump 
   pub after-lifted : Bumped k v (after a f r) (after b g r)
   after-lifted =
       record {
-        at =
+        at = λ some.
             lt-or-ge k (level a r)
-            (λ h. raised-here h (l .adjust-up h))
-            (λ h. ap (λ (x : ℕ). x % 2 ^ 32) (after-out b g r k (omega arith)) ∙ bump .at ∙ ap (λ (x : ℕ). (x + v) % 2 ^ 32) (sym (after-out a f r k h)));
+            (λ h. raised-here h (l .adjust-up some h))
+            (λ h. ap (λ (x : ℕ). x % 2 ^ 32) (after-out b g r k (omega arith)) ∙ bump .at some ∙ ap (λ (x : ℕ). (x + v) % 2 ^ 32) (sym (after-out a f r k h)));
         other = λ j few ne.
             lt-or-ge j (level a r)
             (λ h. after-in b g r j (omega arith) ∙ l .adjust-other j few ne ∙ sym (after-in a f r j h))

@@ -20,11 +20,10 @@ use Rattle.merging.specs.Cut.{Falling, Searchable}
 use Rattle.merging.specs.Open.{OpenLinked, CutC, Closed}
 use Rattle.merging.specs.Settled.{lastSums}
 use Rattle.merging.specs.Cached.{Kept}
-use Rattle.merging.specs.Trio.{Trio}
+use Rattle.merging.specs.Trio.{Roomy, Trio}
 use Rattle.merging.specs.Running.{Merging, Finished, RunsReady, RunsDone}
 use Rattle.merging.specs.Merge.{Mergeable, Merged}
-use Rattle.arena.proofs.Summing.{suffixes-none}
-use Rattle.merging.proofs.CacheLaws.{suffixes-agree}
+use Rattle.arena.proofs.Summing.{suffixes-none, suffixes-agree}
 use Rattle.merging.proofs.OpenLaws.{open-empty, ends-filled}
 use Rattle.merging.proofs.CarriedLaws.{carried-frame, carried-same}
 use Rattle.merging.proofs.ClosingLaws.{closed-value, closed-same}
@@ -44,7 +43,7 @@ ordered-falling a f (r ∷ rs) o =
     (below-first a (after a f r) (mWord a r) rs (λ z i. o .0 z i .0), ordered-falling a (after a f r) rs (o .1))
 
 -- The result's head was cleared.
-module _ (a b : List ℕ) (ho hn hc : ℕ) (xs ys : List ℕ) (g : Mergeable a ho hn hc xs ys) (c : Cleared a hc b) where
+module _ (a b : List ℕ) (ho hn hc : ℕ) (xs ys : List ℕ) (g : Mergeable a ho hn hc xs ys) (c : Cleared a hc b) (floor : mWord b 0 ≡ 0) where
   module _ (h : ℕ) (rs : List ℕ) (apart : h ≡ hc → ⊥) (away : Away hc rs) (l : Linked a h rs) where
     head-same : Same a b h
     head-same = c .outside h apart
@@ -63,11 +62,18 @@ module _ (a b : List ℕ) (ho hn hc : ℕ) (xs ys : List ℕ) (g : Mergeable a h
           linked = linked-frame a b h rs (c .long) (same-shape a b h head-same) (all-map rs (λ x s. same-shape a b x s) records-same) l;
           falling = ordered-falling b (adjust b h) rs (subst (λ (k : List Recorded). Ordered (items k)) (sym carried-still) o);
           few = few;
+          floor = floor;
         }
 
-    still-room : All (λ x. mWord a x + 1 < 2 ^ 32) rs → All (λ x. mWord b x + 1 < 2 ^ 32) rs
+    still-room : All (Roomy a) rs → All (Roomy b) rs
     still-room room =
-        all-both rs (λ x s few. subst (λ (m : ℕ). m + 1 < 2 ^ 32) (sym (s .at 1 (omega arith))) few) records-same room
+        all-both rs
+        (λ x s roomy.
+        let same = s .at 1 (omega arith) in
+        let some = roomy .some in
+        let small = roomy .small in
+        record { some = omega arith; small = omega arith })
+        records-same room
 
   abbrev older-still : carried b (adjust b ho) xs ≡ held a ho [] xs
   older-still = carried-still ho xs (g .older-result) (g .result-off-older) (g .older)
@@ -162,10 +168,10 @@ module _ (a b : List ℕ) (ho hn hc : ℕ) (xs ys : List ℕ) (g : Mergeable a h
         }
 
 -- The calls of the function are ready, and their promises give its own.
-module _ (a b : List ℕ) (ho hn hc : ℕ) (c : Cleared a hc b) where
-  pub merge-ready : ((xs : List ℕ) × (ys : List ℕ) × Mergeable a ho hn hc xs ys) → RunsReady b ho hn (replicate 8 hc)
+module _ (a b : List ℕ) (ho hn : ℕ) (c : Cleared a 0 b) where
+  pub merge-ready : ((xs : List ℕ) × (ys : List ℕ) × Mergeable a ho hn 0 xs ys) → RunsReady b ho hn (replicate 8 0)
   merge-ready p =
-      (b, hc, p .0, p .1, p .0, p .1, [], whole a b ho hn hc (p .0) (p .1) (p .2) c, begins a b ho hn hc (p .0) (p .1) (p .2) c)
+      (b, 0, p .0, p .1, p .0, p .1, [], whole a b ho hn 0 (p .0) (p .1) (p .2) c (c .floor), begins a b ho hn 0 (p .0) (p .1) (p .2) c (c .floor))
 
   -- The sums kept at the start: those of the two heads, and none of the result's head.
   head-enterable : (h : ℕ) (rs : List ℕ) → Linked a h rs → Enterable b h (replicate 9 0)
@@ -174,32 +180,32 @@ module _ (a b : List ℕ) (ho hn hc : ℕ) (c : Cleared a hc b) where
       let has = l .has in
       record { has = omega arith; nine = refl; none = refl }
 
-  pub older-enterable : ((xs : List ℕ) × (ys : List ℕ) × Mergeable a ho hn hc xs ys) → Enterable b ho (replicate 9 0)
+  pub older-enterable : ((xs : List ℕ) × (ys : List ℕ) × Mergeable a ho hn 0 xs ys) → Enterable b ho (replicate 9 0)
   older-enterable p = head-enterable ho (p .0) (p .2 .older)
 
-  pub newer-enterable : ((xs : List ℕ) × (ys : List ℕ) × Mergeable a ho hn hc xs ys) → Enterable b hn (replicate 9 0)
+  pub newer-enterable : ((xs : List ℕ) × (ys : List ℕ) × Mergeable a ho hn 0 xs ys) → Enterable b hn (replicate 9 0)
   newer-enterable p = head-enterable hn (p .1) (p .2 .newer)
 
-  pub merge-kept : (olders newers : List ℕ) → Suffixes (adjust b ho) olders → Suffixes (adjust b hn) newers → Kept b ho hn (replicate 8 hc) olders newers (replicate 9 0)
+  pub merge-kept : (olders newers : List ℕ) → Suffixes (adjust b ho) olders → Suffixes (adjust b hn) newers → Kept b ho hn (replicate 8 0) olders newers (replicate 9 0)
   merge-kept olders newers older newer =
       record {
         older = older;
         newer = newer;
         ends =
-            suffixes-agree (λ k. 0) (lastSums b (replicate 8 hc)) (replicate 9 0)
-            (λ k low high. ap (λ (x : ℕ). adjust b x k) (getD-replicate 8 k hc 0 high) ∙ c .built .still k high)
+            suffixes-agree (λ k. 0) (lastSums b (replicate 8 0)) (replicate 9 0)
+            (λ k low high. ap (λ (x : ℕ). adjust b x k) (getD-replicate 8 k 0 0 high) ∙ c .built .still k high)
             suffixes-none;
       }
 
-  module _ (d ends : List ℕ) (runs : RunsDone b d ho hn (replicate 8 hc) ends) where
-    finished : (xs ys : List ℕ) (g : Mergeable a ho hn hc xs ys) → Finished b d ho hn hc xs ys ends (whole a b ho hn hc xs ys g c)
-    finished xs ys g = runs b hc xs ys xs ys [] (whole a b ho hn hc xs ys g c) (begins a b ho hn hc xs ys g c)
+  module _ (d ends : List ℕ) (runs : RunsDone b d ho hn (replicate 8 0) ends) where
+    finished : (xs ys : List ℕ) (g : Mergeable a ho hn 0 xs ys) → Finished b d ho hn 0 xs ys ends (whole a b ho hn 0 xs ys g c (c .floor))
+    finished xs ys g = runs b 0 xs ys xs ys [] (whole a b ho hn 0 xs ys g c (c .floor)) (begins a b ho hn 0 xs ys g c (c .floor))
 
-    pub merge-closes : ((xs : List ℕ) × (ys : List ℕ) × Mergeable a ho hn hc xs ys) → (h : ℕ) × (cs : List ℕ) × OpenLinked d h cs × CutC d h cs ends
+    pub merge-closes : ((xs : List ℕ) × (ys : List ℕ) × Mergeable a ho hn 0 xs ys) → (h : ℕ) × (cs : List ℕ) × OpenLinked d h cs × CutC d h cs ends
     merge-closes p =
-        let f = finished (p .0) (p .1) (p .2) in (hc, f .cs, f .lists .result, f .lists .result-ends)
+        let f = finished (p .0) (p .1) (p .2) in (0, f .cs, f .lists .result, f .lists .result-ends)
 
-    pub merge-done : (e : List ℕ) → ((h : ℕ) (cs : List ℕ) → OpenLinked d h cs → CutC d h cs ends → Closed d e h cs ends) → (xs ys : List ℕ) → Mergeable a ho hn hc xs ys → Merged a e ho hn hc xs ys
+    pub merge-done : (e : List ℕ) → ((h : ℕ) (cs : List ℕ) → OpenLinked d h cs → CutC d h cs ends → Closed d e h cs ends) → (xs ys : List ℕ) → Mergeable a ho hn 0 xs ys → Merged a e ho hn 0 xs ys
     merge-done e close xs ys g =
         let f = finished xs ys g in
-        merged a b ho hn hc xs ys g c d e ends f (close hc (f .cs) (f .lists .result) (f .lists .result-ends))
+        merged a b ho hn 0 xs ys g c (c .floor) d e ends f (close 0 (f .cs) (f .lists .result) (f .lists .result-ends))

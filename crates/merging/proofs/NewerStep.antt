@@ -13,7 +13,7 @@ use Rattle.merging.specs.Cut.{front}
 use Rattle.merging.specs.Cached.{Cached, Kept}
 use Rattle.merging.specs.Advance.{behind, Movable, Moved}
 use Rattle.merging.specs.Running.{Merging, Further, NewerReady, NewerDone}
-use Rattle.merging.proofs.CacheLaws.{suffixes-agree}
+use Rattle.arena.proofs.Summing.{suffixes-agree}
 use Rattle.merging.proofs.Advancing.{behind-shorter, all-front}
 use Rattle.merging.proofs.DropLaws.{same-first, first-has}
 use Rattle.merging.proofs.TrioLaws.{trio-swap, trio-movable}
@@ -34,14 +34,14 @@ module _ (a : List ℕ) (ho hn v : ℕ) (ends : List ℕ) (p : NewerReady a ho h
   newer-low = subst (λ (x : ℕ). level a x ≤ 8) (sym same) (p .7 .waits .lists .older .linked .chain .0 .high)
 
   pub newer-room : (key : ℕ) → key ≡ word a v 1 → key + 1 < 2 ^ 32
-  newer-room key k = subst (λ (x : ℕ). x + 1 < 2 ^ 32) (sym (k ∙ ap (λ (x : ℕ). word a x 1) same)) (p .7 .waits .older-room .0)
+  newer-room key k = subst (λ (x : ℕ). x + 1 < 2 ^ 32) (sym (k ∙ ap (λ (x : ℕ). word a x 1) same)) (p .7 .waits .older-room .0 .small)
 
   pub newer-movable : (key : ℕ) → key ≡ word a v 1 → Movable a hn (p .0) (key + 1) (p .5) (p .3) (p .4) ends
   newer-movable key k =
       let first : key ≡ mWord a (p .1) = k ∙ ap (λ (x : ℕ). word a x 1) same in
       let less = p .8 in
       trio-movable a hn ho (p .0) (key + 1) (p .3) (p .4) (p .1 ∷ p .2) (p .5) ends
-      (trio-swap a ho hn (p .0) (p .1 ∷ p .2) (p .3 ∷ p .4) (p .5) ends (p .7 .waits .lists)) (omega arith)
+      (trio-swap a ho hn (p .0) (p .1 ∷ p .2) (p .3 ∷ p .4) (p .5) ends (p .7 .waits .lists)) (omega arith) (omega arith)
 
   -- The sums kept, before the run is moved and after it.
   module _ (olders newers lasts : List ℕ) (kept : Kept a ho hn ends olders newers lasts) where

@@ -18,7 +18,7 @@ use Rattle.merging.specs.Advance.{behind, Movable, Moved}
 use Rattle.merging.specs.Dropping.{Dropped}
 use Rattle.merging.specs.Running.{Confined, Merging, Further, OlderReady, OlderDone}
 use Rattle.merging.proofs.OpenLaws.{open-has}
-use Rattle.merging.proofs.CacheLaws.{suffixes-agree}
+use Rattle.arena.proofs.Summing.{suffixes-agree}
 use Rattle.merging.proofs.Advancing.{behind-shorter, all-front}
 use Rattle.merging.proofs.DropLaws.{same-first, first-has}
 use Rattle.merging.proofs.TrioLaws.{trio-movable, trio-moved}
@@ -54,7 +54,8 @@ module _ (a : List ℕ) (ho hn v : ℕ) (ends : List ℕ) (p : OlderReady a ho h
     older-movable =
         let low = p .8 in
         let f = first in
-        trio-movable a ho hn (p .0) key (p .1) (p .2) (p .3 ∷ p .4) (p .5) ends (p .7 .waits .lists) (omega arith)
+        let some = p .7 .waits .newer-room .0 .some in
+        trio-movable a ho hn (p .0) key (p .1) (p .2) (p .3 ∷ p .4) (p .5) ends (p .7 .waits .lists) (omega arith) (omega arith)
 
     -- After the run was moved, in the words of the laws.
     module _ (b : List ℕ) (q : ℕ) (ends' : List ℕ) (f : q ≡ pUnder a (adjust a hn) v) (move : Moves a b ho key q ends ends') where

@@ -12,6 +12,7 @@ use Rattle.arena.specs.Lazy.{nextWith, lastWith}
 use Rattle.arena.specs.Chain.{Has, put, wrap, All, Away, Member, Chain, Same, Shape}
 use Rattle.arena.proofs.ListLaws.{last-here, last-append, all-left, all-right, all-append, chain-right, jump}
 use Rattle.arena.proofs.PutLaws.{length-put, word-same, word-other-record, word-other-field, same-refl, same-put, same-trans}
+use Rattle.arena.proofs.Cases.{lt-or-ge}
 use Rattle.arena.proofs.Frames.{all-both}
 use Rattle.arena.proofs.Walking.{count, next-none, next-first, next-second, count-is, one-list}
 use Rattle.merging.specs.Cut.{front, Searchable, passes, Reachable}
@@ -26,7 +27,7 @@ front-all a key (x ∷ xs) ys tops =
     front-in a key x (xs ++ ys) (tops .0) ∙ ap (λ (l : List ℕ). x ∷ l) (front-all a key xs ys (tops .1))
 
 -- Where the first record does not pass, none is in front.
-front-none : (a : List ℕ) (key : ℕ) (rs : List ℕ) → Chain a rs → passes a (nextWith a 0 rs) key ≡ false → front a key rs ≡ []
+pub front-none : (a : List ℕ) (key : ℕ) (rs : List ℕ) → Chain a rs → passes a (nextWith a 0 rs) key ≡ false → front a key rs ≡ []
 unfolding front
 front-none a key [] c e = refl
 front-none a key (r ∷ rs) c e =
@@ -37,15 +38,25 @@ passes-frame : (a b : List ℕ) (r key : ℕ) → mWord b r ≡ mWord a r → pa
 unfolding passes
 passes-frame a b r key e = ap (λ (m : ℕ). leb 1 r && leb key m) e
 
--- What a list's head leads to by link k can be read.
+-- What a record or a head leads to by link k can be read.
+pub next-reach : (a : List ℕ) (k x : ℕ) (rs : List ℕ) → Has a 0 → mWord a 0 ≡ 0 → Chain a rs → x ≡ nextWith a k rs → Reachable a x
+next-reach a k x rs has floor chain is =
+    record {
+      has =
+          lt-or-ge 0 x
+          (λ some.
+          let j = jump a k rs (subst (λ (n : ℕ). 1 ≤ n) is some) in
+          subst (λ (n : ℕ). Has a n) (sym is)
+          (chain-right a (j .before) (nextWith a k rs ∷ j .after) (subst (Chain a) (j .split) chain) .0 .has))
+          (λ none. omega arith);
+      floor = floor;
+    }
+
 pub link-reach : (a : List ℕ) (h : ℕ) (rs : List ℕ) → Searchable a h rs → (k x w : ℕ) → k < 8 → w ≡ word a h (3 + k) → x ≡ w → Reachable a x
-unfolding Reachable
-link-reach a h rs s k x w few w-is e some =
+link-reach a h rs s k x w few w-is e =
     let top = s .linked .top in
-    let is : x ≡ nextWith a k rs = e ∙ w-is ∙ s .linked .links .at k (omega arith) in
-    let j = jump a k rs (subst (λ (n : ℕ). 1 ≤ n) is some) in
-    subst (λ (n : ℕ). Has a n) (sym is)
-    (chain-right a (j .before) (nextWith a k rs ∷ j .after) (subst (Chain a) (j .split) (s .linked .chain)) .0 .has)
+    let has = s .linked .has in
+    next-reach a k x rs (omega arith) (s .floor) (s .linked .chain) (e ∙ w-is ∙ s .linked .links .at k (omega arith))
 
 -- The records ps were passed, cur is the last of them or the head, and qs are left, the first of which is `next`.
 pub record Passing (a₀ a : List ℕ) (h key v cur next : ℕ) : Type 0 where
@@ -110,19 +121,19 @@ module _ (a₀ a : List ℕ) (h key v cur next : ℕ) (g : Passing a₀ a h key 
           }
 
   pub passing-reach : Reachable a next
-  unfolding Reachable
-  passing-reach some =
-      let has = ahead some .member .has in
+  passing-reach =
+      let head = g .list .linked .has in
       let long = g .length-kept in
-      omega arith
+      let reach = next-reach a₀ 0 next (g .qs) (omega arith) (g .list .floor) left (g .next-is) in
+      let has = reach .has in
+      record { has = omega arith; floor = g .shape 0 .m-kept ∙ g .list .floor }
 
   module _ (p : true ≡ passes a next key) where
     some-next : 1 ≤ next
     some-next = passes-yes a next key (sym p) .0
 
     pub passing-has : Has a next
-    unfolding Reachable
-    passing-has = passing-reach some-next
+    passing-has = passing-reach .has
 
     abbrev post : List ℕ
     post = ahead some-next .post

@@ -39,6 +39,7 @@ stretch-frame a b k stop (r ∷ rs) small long s t =
     let high = t .0 .high in (
       record {
         has = omega arith;
+        low = let low = t .0 .low in omega arith;
         high = omega arith;
         link = λ h. s r .forward-kept k small ∙ t .0 .link (omega arith) ∙ sym (next-frame a b k stop rs s);
         not-stop = t .0 .not-stop;
@@ -79,50 +80,76 @@ stretch-right : (a : List ℕ) (k stop : ℕ) (xs ys : List ℕ) → Stretch a k
 stretch-right a k stop [] ys s = s
 stretch-right a k stop (x ∷ xs) ys s = stretch-right a k stop xs ys (s .1)
 
--- The arena after one turn.
-module _ (a : List ℕ) (k v r : ℕ) (small : k < 8) (has : Has a r) where
+-- The arena b is a with one record raised: its p, and its adjust k where that counts.
+pub record Raised (a b : List ℕ) (k v r : ℕ) : Type 0 where
+  pub length-kept : length b ≡ length a
+  pub shape : (x : ℕ) → Shape a b x
+  pub other : (x : ℕ) → (x ≡ r → ⊥) → Same a b x
+  pub p-up : word b r 2 ≡ wrap (word a r 2) v
+  pub adjust-up : 1 ≤ k → word b r (11 + k) ≡ wrap (word a r (11 + k)) v
+  pub adjust-other : (j : ℕ) → j < 8 → (j ≡ k → ⊥) → word b r (11 + j) ≡ word a r (11 + j)
+
+-- At link 0 the p alone is raised.
+module _ (a : List ℕ) (v r : ℕ) (has : Has a r) where
   abbrev raisedP : List ℕ
   raisedP = put a r 2 (wrap (word a r 2) v)
 
-  abbrev pub turned : List ℕ
-  turned = put raisedP r (11 + k) (wrap (word raisedP r (11 + k)) v)
+  p-field : (x j : ℕ) → j < stride → (j ≡ 2 → ⊥) → word raisedP x j ≡ word a x j
+  p-field x j few n = word-other-field a r 2 _ x j n (omega arith) few
 
-  turned-length : length turned ≡ length a
-  turned-length = length-put raisedP r (11 + k) _ ∙ length-put a r 2 _
-
-  turned-field : (x j : ℕ) → j < stride → (j ≡ 2 → ⊥) → (j ≡ 11 + k → ⊥) → word turned x j ≡ word a x j
-  turned-field x j few n m =
-      word-other-field raisedP r (11 + k) _ x j m (omega arith) few ∙ word-other-field a r 2 _ x j n (omega arith) few
-
-  turned-shape : (x : ℕ) → Shape a turned x
-  turned-shape x =
+  pub raised-low : Raised a raisedP 0 v r
+  raised-low =
       record {
-        level-kept = turned-field x 0 (omega arith) (omega arith) (omega arith);
-        m-kept = turned-field x 1 (omega arith) (omega arith) (omega arith);
-        forward-kept = λ j h. turned-field x (3 + j) (omega arith) (omega arith) (omega arith);
+        length-kept = length-put a r 2 _;
+        shape = λ x.
+            record {
+              level-kept = p-field x 0 (omega arith) (omega arith);
+              m-kept = p-field x 1 (omega arith) (omega arith);
+              forward-kept = λ j h. p-field x (3 + j) (omega arith) (omega arith);
+            };
+        other = λ x e. same-put a r 2 _ x e (omega arith);
+        p-up = word-same a r 2 _ has (omega arith);
+        adjust-up = λ some. absurd (omega arith);
+        adjust-other = λ j few ne. p-field r (11 + j) (omega arith) (omega arith);
       }
 
-  turned-other : (x : ℕ) → (x ≡ r → ⊥) → Same a turned x
-  turned-other x e =
-      same-trans a raisedP turned x (same-put a r 2 _ x e (omega arith)) (same-put raisedP r (11 + k) _ x e (omega arith))
+-- At another link the p and the adjust.
+module _ (a : List ℕ) (k v r : ℕ) (small : k < 8) (has : Has a r) where
+  abbrev raisedBoth : List ℕ
+  raisedBoth = put (raisedP a v r has) r (11 + k) (wrap (word (raisedP a v r has) r (11 + k)) v)
 
-  turned-p : word turned r 2 ≡ wrap (word a r 2) v
-  turned-p = word-other-field raisedP r (11 + k) _ r 2 (omega arith) (omega arith) (omega arith) ∙ word-same a r 2 _ has (omega arith)
+  both-field : (x j : ℕ) → j < stride → (j ≡ 2 → ⊥) → (j ≡ 11 + k → ⊥) → word raisedBoth x j ≡ word a x j
+  both-field x j few n m =
+      word-other-field (raisedP a v r has) r (11 + k) _ x j m (omega arith) few ∙ p-field a v r has x j few n
 
-  turned-adjust : word turned r (11 + k) ≡ wrap (word a r (11 + k)) v
-  turned-adjust =
-      word-same raisedP r (11 + k) _ (let l = length-put a r 2 (wrap (word a r 2) v) in omega arith) (omega arith)
-      ∙ ap (λ (w : ℕ). wrap w v) (word-other-field a r 2 _ r (11 + k) (omega arith) (omega arith) (omega arith))
-
-  turned-adjust-other : (j : ℕ) → j < 8 → (j ≡ k → ⊥) → word turned r (11 + j) ≡ word a r (11 + j)
-  turned-adjust-other j few ne = turned-field r (11 + j) (omega arith) (omega arith) (λ e. ne (omega arith))
+  pub raised-both : Raised a raisedBoth k v r
+  raised-both =
+      let low = raised-low a v r has in
+      let long = low .length-kept in
+      record {
+        length-kept = length-put (raisedP a v r has) r (11 + k) _ ∙ long;
+        shape = λ x.
+            record {
+              level-kept = both-field x 0 (omega arith) (omega arith) (omega arith);
+              m-kept = both-field x 1 (omega arith) (omega arith) (omega arith);
+              forward-kept = λ j h. both-field x (3 + j) (omega arith) (omega arith) (omega arith);
+            };
+        other = λ x e.
+            same-trans a (raisedP a v r has) raisedBoth x (low .other x e)
+            (same-put (raisedP a v r has) r (11 + k) _ x e (omega arith));
+        p-up = word-other-field (raisedP a v r has) r (11 + k) _ r 2 (omega arith) (omega arith) (omega arith) ∙ low .p-up;
+        adjust-up = λ some.
+            word-same (raisedP a v r has) r (11 + k) _ (omega arith) (omega arith)
+            ∙ ap (λ (w : ℕ). wrap w v) (p-field a v r has r (11 + k) (omega arith) (omega arith));
+        adjust-other = λ j few ne. both-field r (11 + j) (omega arith) (omega arith) (λ e. ne (omega arith));
+      }
 
 -- From the arena after the turn to the arena before it, for each kind of record of the stretch.
 lifted-untouched : (a b : List ℕ) (k v x : ℕ) → level a x ≤ k → Same a b x → Lifted a b k v x
 lifted-untouched a b k v x low s =
     record {
       p-up = λ h. absurd (omega arith);
-      adjust-up = λ h. absurd (omega arith);
+      adjust-up = λ some h. absurd (omega arith);
       adjust-other = λ j few ne. s .at (11 + j) (omega arith);
       untouched = λ h. s;
     }
@@ -132,26 +159,26 @@ lifted-back a c b k v x small s l =
     let same = s .at 0 (omega arith) in
     record {
       p-up = λ h. l .p-up (omega arith) ∙ ap (λ (w : ℕ). wrap w v) (s .at 2 (omega arith));
-      adjust-up = λ h. l .adjust-up (omega arith) ∙ ap (λ (w : ℕ). wrap w v) (s .at (11 + k) (omega arith));
+      adjust-up = λ some h. l .adjust-up some (omega arith) ∙ ap (λ (w : ℕ). wrap w v) (s .at (11 + k) (omega arith));
       adjust-other = λ j few ne. l .adjust-other j few ne ∙ s .at (11 + j) (omega arith);
       untouched = λ h. same-trans a c b x s (l .untouched (omega arith));
     }
 
-module _ (a b : List ℕ) (k v stop r : ℕ) (small : k < 8) (has : Has a r) (link : k < level a r) (after : List ℕ) (l : Lifting (turned a k v r small has) b k v after) where
+module _ (a t b : List ℕ) (k v stop r : ℕ) (small : k < 8) (u : Raised a t k v r) (link : k < level a r) (after : List ℕ) (l : Lifting t b k v after) where
   lifted-turned : Away r after → Lifted a b k v r
   lifted-turned away =
       let same = l .outside r away in
       record {
-        p-up = λ h. same .at 2 (omega arith) ∙ turned-p a k v r small has;
-        adjust-up = λ h. same .at (11 + k) (omega arith) ∙ turned-adjust a k v r small has;
-        adjust-other = λ j few ne. same .at (11 + j) (omega arith) ∙ turned-adjust-other a k v r small has j few ne;
+        p-up = λ h. same .at 2 (omega arith) ∙ u .p-up;
+        adjust-up = λ some h. same .at (11 + k) (omega arith) ∙ u .adjust-up some;
+        adjust-other = λ j few ne. same .at (11 + j) (omega arith) ∙ u .adjust-other j few ne;
         untouched = λ h. absurd (omega arith);
       }
 
-  lifted-after : (rs : List ℕ) → Away r rs → All (Lifted (turned a k v r small has) b k v) rs → All (Lifted a b k v) rs
+  lifted-after : (rs : List ℕ) → Away r rs → All (Lifted t b k v) rs → All (Lifted a b k v) rs
   lifted-after [] away e = tt
   lifted-after (x ∷ rs) away e =
-      (lifted-back a (turned a k v r small has) b k v x small (turned-other a k v r small has x (away .0)) (e .0), lifted-after rs (away .1) (e .1))
+      (lifted-back a t b k v x small (u .other x (away .0)) (e .0), lifted-after rs (away .1) (e .1))
 
   -- The records before r, which have not the link, and the rest.
   lifted-all : (before : List ℕ) → All (λ x. level a x ≤ k) before → Stretch a k stop (before ++ (r ∷ after)) → All (Lifted a b k v) (before ++ (r ∷ after))
@@ -159,16 +186,16 @@ module _ (a b : List ℕ) (k v stop r : ℕ) (small : k < 8) (has : Has a r) (li
   lifted-all (x ∷ before) low s =
       let far = all-right (λ y. y ≡ x → ⊥) before (r ∷ after) (s .0 .away) in
       let other : x ≡ r → ⊥ = λ e. far .0 (sym e) in (
-        lifted-untouched a b k v x (low .0) (same-trans a (turned a k v r small has) b x (turned-other a k v r small has x other) (l .outside x (far .1))),
+        lifted-untouched a b k v x (low .0) (same-trans a t b x (u .other x other) (l .outside x (far .1))),
         lifted-all before (low .1) (s .1),
       )
 
   lifting-turn : (before : List ℕ) → All (λ x. level a x ≤ k) before → Stretch a k stop (before ++ (r ∷ after)) → Lifting a b k v (before ++ (r ∷ after))
   lifting-turn before low s =
       record {
-        length-kept = l .length-kept ∙ turned-length a k v r small has;
+        length-kept = l .length-kept ∙ u .length-kept;
         shape = λ x.
-            let s1 = turned-shape a k v r small has x in
+            let s1 = u .shape x in
             let s2 = l .shape x in
             record {
               level-kept = s2 .level-kept ∙ s1 .level-kept;
@@ -177,7 +204,7 @@ module _ (a b : List ℕ) (k v stop r : ℕ) (small : k < 8) (has : Has a r) (li
             };
         outside = λ x away.
             let far = all-right (λ y. y ≡ x → ⊥) before (r ∷ after) away in
-            same-trans a (turned a k v r small has) b x (turned-other a k v r small has x (λ e. far .0 (sym e))) (l .outside x (far .1));
+            same-trans a t b x (u .other x (λ e. far .0 (sym e))) (l .outside x (far .1));
         each = lifted-all before low s;
       }
 
@@ -287,60 +314,59 @@ module _ (a₀ a : List ℕ) (k v first stop cur : ℕ) (small : k < 8) (g : Rai
     pub raising-has : Has a cur
     raising-has = here .has
 
-    next-is : (has : Has a cur) (nxt : ℕ) → nxt ≡ word (turned a k v cur small has) cur (3 + k) → nxt ≡ nextOr (turned a k v cur small has) k stop (p .after)
-    next-is has nxt f =
-        f ∙ turned-shape a k v cur small has cur .forward-kept k small ∙ here .link (p .link)
-        ∙ sym (next-frame a (turned a k v cur small has) k stop (p .after) (turned-shape a k v cur small has))
-
     shorter : length (l .post) ≡ length (p .before) + suc (length (p .after))
     shorter = ap length (p .split) ∙ length-append (p .before) (cur ∷ p .after)
 
-    left-turned : (has : Has a cur) (nxt : ℕ) → nxt ≡ word (turned a k v cur small has) cur (3 + k) → Left a₀ (turned a k v cur small has) k v stop nxt rs
-    left-turned has nxt f =
-        record {
-          post = p .after;
-          chained =
-              record {
-                first-is = next-is has nxt f;
-                stretch =
-                    stretch-frame a (turned a k v cur small has) k stop (p .after) small (turned-length a k v cur small has)
-                    (turned-shape a k v cur small has) (stretch-right a k stop (p .before) (cur ∷ p .after) whole .1);
-                few = let f = l .chained .few in let s = shorter in omega arith;
-              };
-          rest = λ b d.
-              l .rest b
-              (subst (λ (x : List ℕ). Lifting a b k v x) (sym (p .split))
-              (lifting-turn a b k v stop cur small has (p .link) (p .after) d (p .before) (p .lower) whole));
-        }
+    -- A turn: the record is raised, and the next one is read.
+    module _ (b : List ℕ) (nxt : ℕ) (u : Raised a b k v cur) (read : nxt ≡ word b cur (3 + k)) where
+      next-is : nxt ≡ nextOr b k stop (p .after)
+      next-is =
+          read ∙ u .shape cur .forward-kept k small ∙ here .link (p .link)
+          ∙ sym (next-frame a b k stop (p .after) (u .shape))
 
-  raising-turned : (has : Has a cur) (nxt : ℕ) → nxt ≡ word (turned a k v cur small has) cur (3 + k) → Raising a₀ (turned a k v cur small has) k v first stop nxt
-  raising-turned has nxt f =
-      record {
-        length-kept = turned-length a k v cur small has ∙ g .length-kept;
-        left = λ rs c. left-turned rs c has nxt f;
-      }
+      left-turned : Left a₀ b k v stop nxt rs
+      left-turned =
+          record {
+            post = p .after;
+            chained =
+                record {
+                  first-is = next-is;
+                  stretch =
+                      stretch-frame a b k stop (p .after) small (u .length-kept) (u .shape)
+                      (stretch-right a k stop (p .before) (cur ∷ p .after) whole .1);
+                  few = let f = l .chained .few in let s = shorter in omega arith;
+                };
+            rest = λ d e.
+                l .rest d
+                (subst (λ (x : List ℕ). Lifting a d k v x) (sym (p .split))
+                (lifting-turn a b d k v stop cur small u (p .link) (p .after) e (p .before) (p .lower) whole));
+          }
 
-  -- The turn as the code makes it: two words raised, and the next record read.
-  module _ (b c : List ℕ) (nxt : ℕ) (has : Has a cur) (first-store : b ≡ put a cur 2 (wrap (word a cur 2) v)) (second-store : c ≡ put b cur (11 + k) (wrap (word b cur (11 + k)) v)) (read : nxt ≡ word c cur (3 + k)) where
-    is-turned : c ≡ turned a k v cur small has
-    is-turned = second-store ∙ ap (λ (x : List ℕ). put x cur (11 + k) (wrap (word x cur (11 + k)) v)) first-store
-
-    pub raising-turn : Raising a₀ c k v first stop nxt
+  module _ (b : List ℕ) (nxt : ℕ) (u : Raised a b k v cur) (read : nxt ≡ word b cur (3 + k)) where
+    pub raising-turn : Raising a₀ b k v first stop nxt
     raising-turn =
-        subst (λ (x : List ℕ). Raising a₀ x k v first stop nxt) (sym is-turned)
-        (raising-turned has nxt (subst (λ (x : List ℕ). nxt ≡ word x cur (3 + k)) is-turned read))
+        record { length-kept = u .length-kept ∙ g .length-kept; left = λ rs c. left-turned rs c b nxt u read }
 
-    pub raising-less : (rs : List ℕ) → Chained a₀ k first stop rs → countTo 512 c k stop nxt < countTo 512 a k stop cur
+    pub raising-less : (rs : List ℕ) → Chained a₀ k first stop rs → countTo 512 b k stop nxt < countTo 512 a k stop cur
     unfolding p left-turned
     raising-less rs s =
         let x = l rs s in
         let q = p rs s in
         let few = x .chained .few in
         let cut = shorter rs s in
-        let b-next = left-turned rs s has nxt (subst (λ (y : List ℕ). nxt ≡ word y cur (3 + k)) is-turned read) in
-        let t = turned a k v cur small has in
+        let next = left-turned rs s b nxt u read in
         let was : countTo 512 a k stop cur ≡ howMany a k (x .post) = ap (countTo 512 a k stop) (x .chained .first-is) ∙ count-is 512 a k stop (x .post) (x .chained .stretch) (omega (arith, many-few a k (x .post))) in
-        let is : countTo 512 t k stop nxt ≡ howMany t k (q .after) = ap (countTo 512 t k stop) (b-next .chained .first-is) ∙ count-is 512 t k stop (q .after) (b-next .chained .stretch) (omega (arith, many-few t k (q .after))) in
-        let same = many-frame a t k (q .after) (turned-shape a k v cur small has) in
+        let is : countTo 512 b k stop nxt ≡ howMany b k (q .after) = ap (countTo 512 b k stop) (next .chained .first-is) ∙ count-is 512 b k stop (q .after) (next .chained .stretch) (omega (arith, many-few b k (q .after))) in
+        let same = many-frame a b k (q .after) (u .shape) in
         let less : howMany a k (q .after) < howMany a k (x .post) = subst (λ (y : List ℕ). howMany a k (q .after) < howMany a k y) (sym (q .split)) (many-after a k cur (q .before) (q .after) (q .link)) in
-        subst (λ (y : List ℕ). countTo 512 y k stop nxt < countTo 512 a k stop cur) (sym is-turned) (omega arith)
+        omega arith
+
+  -- The turns as the code makes them.
+  pub both-raised : (b c : List ℕ) → Has a cur → b ≡ put a cur 2 (wrap (word a cur 2) v) → c ≡ put b cur (11 + k) (wrap (word b cur (11 + k)) v) → Raised a c k v cur
+  both-raised b c has first-store second-store =
+      subst (λ (x : List ℕ). Raised a x k v cur)
+      (sym (second-store ∙ ap (λ (x : List ℕ). put x cur (11 + k) (wrap (word x cur (11 + k)) v)) first-store))
+      (raised-both a k v cur small has)
+
+pub p-raised : (a : List ℕ) (v cur : ℕ) (b : List ℕ) → Has a cur → b ≡ put a cur 2 (wrap (word a cur 2) v) → Raised a b 0 v cur
+p-raised a v cur b has store = subst (λ (x : List ℕ). Raised a x 0 v cur) (sym store) (raised-low a v cur has)

@@ -56,9 +56,10 @@ module _ (a : List ℕ) (h hc : ℕ) (cs front back cut sums cutc : List ℕ) (n
         to-not-from = λ k p.
             cut-all (λ x. (i : ℕ) → i < n → x ≡ getD cutc i 0 → ⊥) k p
             (all-left (λ x. (i : ℕ) → i < n → x ≡ getD cutc i 0 → ⊥) front back off-ends) k p;
+        to-not-head = λ k p. cut-all (λ x. x ≡ h → ⊥) k p (all-left (λ x. x ≡ h → ⊥) front back (r .list .away));
       }
 
-  module _ (b : List ℕ) (w : Rewired a b h cut sums cutc n) where
+  module _ (b : List ℕ) (w : Rewired a b h cut sums cutc 0 n) where
     level-kept : (x : ℕ) → level b x ≡ level a x
     level-kept x = w .plain x 0 (omega arith)
 
@@ -73,7 +74,7 @@ module _ (a : List ℕ) (h hc : ℕ) (cs front back cut sums cutc : List ℕ) (n
 
     forward-kept : (x k : ℕ) → k < 8 → (x ≡ h → ⊥) → (k < n → x ≡ getD cutc k 0 → ⊥) → forward b x k ≡ forward a x k
     forward-kept x k few ne other =
-        lt-or-ge k n (λ p. w .forward-other x k p ne (other p)) (λ p. w .forward-later x k p few)
+        lt-or-ge k n (λ p. w .forward-other x k (omega arith) p ne (other p)) (λ p. w .forward-above x k p few)
 
     words-kept : (x j : ℕ) → j < stride → (x ≡ h → ⊥) → ((k : ℕ) → k < n → x ≡ getD cutc k 0 → ⊥) → word b x j ≡ word a x j
     words-kept x j few ne other =
@@ -116,7 +117,7 @@ module _ (a : List ℕ) (h hc : ℕ) (cs front back cut sums cutc : List ℕ) (n
               let first : 1 ≤ nextWith a k front = omega arith in
               let top = r .list .top in
               let last : x ≡ getD cutc k 0 = sym (ends k (omega arith) ∙ last-none a k x xs none) in
-              ap (λ (y : ℕ). forward b y k) last ∙ w .from-done k (link-below k first)
+              ap (λ (y : ℕ). forward b y k) last ∙ w .from-done k (omega arith) (link-below k first)
               ∙ r .list .links .at k (omega arith)
               ∙ next-front a k front back first
               ∙ sym tail
@@ -195,10 +196,10 @@ module _ (a : List ℕ) (h hc : ℕ) (cs front back cut sums cutc : List ℕ) (n
         let link = r .list .links .at k (omega arith) in
         lt-or-ge k n
         (λ p.
-        w .head-done k p ∙ ap (λ (x : ℕ). forward a x k) (r .cut-at k p)
+        w .head-done k (omega arith) p ∙ ap (λ (x : ℕ). forward a x k) (r .cut-at k p)
         ∙ last-forward a k h front back link (r .list .chain))
         (λ p.
-        w .forward-later h k p few ∙ link
+        w .forward-above h k p few ∙ link
         ∙ next-back a k front back (all-map front (λ x low. omega arith) (r .lower)))
 
     rest-shape : (rs : List ℕ) → Away h rs → All (λ x. (k : ℕ) → k < n → x ≡ getD cutc k 0 → ⊥) rs → All (Shape a b) rs
@@ -220,16 +221,16 @@ module _ (a : List ℕ) (h hc : ℕ) (cs front back cut sums cutc : List ℕ) (n
               (chain-right a front back (r .list .chain));
         }
 
-    module _ (cutd : List ℕ) (s : Replaced cut cutc cutd n) where
+    module _ (cutd : List ℕ) (s : Replaced cut cutc cutd 0 n) where
       -- The new ends: those of the front below n, and from n on those that were.
       end-at : (k : ℕ) → k < 8 → getD cutd k 0 ≡ lastWith a k hc (cs ++ front)
       end-at k few =
           lt-or-ge k n
           (λ p.
-          s .done k p ∙ r .cut-at k p ∙ last-any a k h (lastWith a k hc cs) front (r .with-link k p)
+          s .done k (omega arith) p ∙ r .cut-at k p ∙ last-any a k h (lastWith a k hc cs) front (r .with-link k p)
           ∙ sym (last-append a k hc cs front))
           (λ p.
-          s .later k p ∙ r .ends .at k few
+          s .above k p ∙ r .ends .at k few
           ∙ sym (last-none a k (lastWith a k hc cs) front (all-map front (λ x low. omega arith) (r .lower)))
           ∙ sym (last-append a k hc cs front))
 
@@ -244,12 +245,13 @@ module _ (a : List ℕ) (h hc : ℕ) (cs front back cut sums cutc : List ℕ) (n
                   long = let l = s .length-kept in let e = r .ends .long in omega arith;
                   at = λ k p. end-at k p ∙ sym (last-kept k hc (cs ++ front));
                 };
+            replaced = λ k p. s .done k (omega arith) p;
             level-kept = level-kept;
             m-kept = λ x. w .plain x 1 (omega arith);
             p-kept = λ x. w .plain x 2 (omega arith);
             adjust-kept = w .adjust-other;
-            adjust-head = w .adjust-done;
-            adjust-above = w .adjust-later;
+            adjust-head = λ k p. w .adjust-done k (omega arith) p;
+            adjust-above = w .adjust-above;
             outside = outside;
           }
 

@@ -4,61 +4,33 @@ use mathlib.Core.Path.{_≡_, refl, sym, ap, ap₂, subst, _∙_}
 use mathlib.Core.Bool.{Bool, false}
 use mathlib.Core.List.{List, [], _∷_, _++_, map}
 use Prim.Native.Nat.{ℕ, _+_, _%_, _^_, _≤_, _<_}
-use native.Mathlib.Nat.{mod-add-mod, add-mod-mod}
+use native.Mathlib.Nat.{mod-add-mod}
 use native.Mathlib.Omega.{arith}
 use borrow.Author.Count.{below-more}
 use lib.ListN.{getD, set, replicate}
 use Rattle.arena.specs.Arena.{word, level, pWord, forward, adjust}
 use Rattle.arena.specs.Lazy.{nextWith, sumFrom}
-use Rattle.arena.specs.Chain.{Has, wrap, All, Chain, pUnder, after, trues}
+use Rattle.arena.specs.Chain.{Has, wrap, All, pUnder, after, trues}
 use Rattle.arena.proofs.SumLaws.{sum-agree}
-use Rattle.arena.proofs.Cases.{lt-or-ge}
-use Rattle.arena.proofs.Frames.{all-both, all-refl, after-in, after-out, next-here}
+use Rattle.arena.proofs.Frames.{all-both, all-refl, chain-low, after-out, next-here}
 use Rattle.arena.proofs.ListLaws.{all-left}
 use Rattle.merging.specs.Cut.{front, LinkCount, CutAt, passes}
 use Rattle.merging.specs.Open.{relinkOne, Relinkable, Relinked}
-use Rattle.merging.specs.Settled.{headSums, lastSums, Above, Settled}
+use Rattle.merging.specs.Settled.{headSums, lastSums, cutSums, Settled}
 use Rattle.merging.specs.Advance.{behind, Movable, Moved}
-use Rattle.merging.specs.Cached.{Cached}
+use Rattle.merging.specs.Cached.{Cached, MakesUp}
 use Rattle.merging.specs.Walk.{Walked}
-use Rattle.merging.proofs.CacheLaws.{renew-none}
+use Rattle.merging.proofs.CacheLaws.{add-both, renew-none}
 use Rattle.merging.proofs.SearchLaws.{front-in, none-in-front}
 use Rattle.merging.proofs.RelinkWords.{Rewired, Ready, Replaced, rewired-none, rewired-turn, replaced-none, replaced-turn}
 use Rattle.merging.proofs.RelinkLaws.{ready, relinked}
 use Rattle.merging.proofs.Advancing.{linked, can-relink, moved, moved-cached}
 
--- Sums that agree from link 1 up agree so after a record.
-after-agree : (a : List ℕ) (f g : ℕ → ℕ) (r : ℕ) → ((k : ℕ) → 1 ≤ k → k < 8 → g k ≡ f k) → (k : ℕ) → 1 ≤ k → k < 8 → after a g r k ≡ after a f r k
-after-agree a f g r e k low high =
-    lt-or-ge k (level a r) (λ p. after-in a g r k p ∙ sym (after-in a f r k p))
-    (λ p. after-out a g r k p ∙ e k low high ∙ sym (after-out a f r k p))
-
--- Link 0 counts for no record: sums that agree from link 1 up give the same true p.
-pub lowest-free : (a : List ℕ) (f g : ℕ → ℕ) (rs : List ℕ) → All (λ x. 1 ≤ level a x) rs → ((k : ℕ) → 1 ≤ k → k < 8 → g k ≡ f k) → trues a g rs ≡ trues a f rs
-unfolding trues pUnder
-lowest-free a f g [] low e = refl
-lowest-free a f g (r ∷ rs) low e =
-    let some = low .0 in
-    ap₂ _∷_
-    (ap (λ (s : ℕ). (pWord a r + s) % 2 ^ 32) (sum-agree f g (level a r) 8 (λ k from high. e k (omega arith) high)))
-    (lowest-free a (after a f r) (after a g r) rs (low .1) (after-agree a f g r e))
-
 -- A record of level 1 leaves the sum from link 1 up as it was.
 sum-kept : (a : List ℕ) (f : ℕ → ℕ) (r : ℕ) → level a r ≤ 1 → sumFrom (after a f r) 1 8 ≡ sumFrom f 1 8
 sum-kept a f r low = sum-agree f (after a f r) 1 8 (λ k from high. after-out a f r k (omega arith))
 
-add-both : (c x y : ℕ) → x % 2 ^ 32 ≡ y % 2 ^ 32 → (c + x) % 2 ^ 32 ≡ (c + y) % 2 ^ 32
-add-both c x y e =
-    sym (add-mod-mod c x (2 ^ 32)) ∙ ap (λ (n : ℕ). (c + n) % 2 ^ 32) e ∙ add-mod-mod c y (2 ^ 32)
-
--- What is to be added to p, where the sum t takes the place of s and q is added.
-made-up : (q d v s t : ℕ) → v ≡ (q + d) % 2 ^ 32 → (d + t) % 2 ^ 32 ≡ s % 2 ^ 32 → (v + t) % 2 ^ 32 ≡ (q + s) % 2 ^ 32
-made-up q d v s t is e =
-    let sum : q + d + t ≡ q + (d + t) = omega arith in
-    ap (λ (n : ℕ). (n + t) % 2 ^ 32) is ∙ mod-add-mod (q + d) (2 ^ 32) t ∙ ap (λ (n : ℕ). n % 2 ^ 32) sum
-    ∙ add-both q (d + t) s e
-
-raised-one : (p p' s t v q : ℕ) → p' ≡ (p + v) % 2 ^ 32 → (v + t) % 2 ^ 32 ≡ (q + s) % 2 ^ 32 → (p' + t) % 2 ^ 32 ≡ ((p + s) % 2 ^ 32 + q) % 2 ^ 32
+pub raised-one : (p p' s t v q : ℕ) → p' ≡ (p + v) % 2 ^ 32 → (v + t) % 2 ^ 32 ≡ (q + s) % 2 ^ 32 → (p' + t) % 2 ^ 32 ≡ ((p + s) % 2 ^ 32 + q) % 2 ^ 32
 raised-one p p' s t v q up sums =
     let one : p + v + t ≡ p + (v + t) = omega arith in
     let other : p + (q + s) ≡ p + s + q = omega arith in
@@ -83,10 +55,6 @@ low-raised a b f g v q sums (r ∷ rs) one same up =
     (low-raised a b (after a f r) (after b g r) v q
     (ap (λ (s : ℕ). (v + s) % 2 ^ 32) s-b ∙ sums ∙ ap (λ (s : ℕ). (q + s) % 2 ^ 32) (sym s-a)) rs (one .1) (same .1)
     (up .1))
-
-chain-low : (a rs : List ℕ) → Chain a rs → All (λ r. 1 ≤ level a r) rs
-chain-low a [] c = tt
-chain-low a (r ∷ rs) c = (c .0 .low, chain-low a rs (c .1))
 
 -- Whether the next record with link 1 passes, as the code finds it.
 pub second-passes : (a : List ℕ) (h key x w : ℕ) (more b : Bool) → w ≡ word a h 4 → x ≡ w → more ≡ passes a x key → more ≡ b → passes a (forward a h 1) key ≡ b
@@ -114,7 +82,7 @@ module _ (a : List ℕ) (h hc key : ℕ) (cs : List ℕ) (r : ℕ) (rs cutc : Li
         (all-left (λ x. 1 ≤ level a x) fr back (chain-low a (fr ++ back) (linked a h hc key cs r rs cutc w .chain)))
 
     -- The walk settles the front, and its last record and head are the cut.
-    module _ (q d v : ℕ) (above : Above a h cutc 1 8 d) (v-is : v ≡ (q + d) % 2 ^ 32) (b : List ℕ) (to : ℕ) (walked : Walked a b h key v (r ∷ rs) to) where
+    module _ (q v : ℕ) (made : MakesUp (headSums a h) (lastSums a cutc) 1 q v) (b : List ℕ) (to : ℕ) (walked : Walked a b h key v (r ∷ rs) to) where
       settled : Settled a b h q cutc fr
       settled =
           record {
@@ -122,8 +90,7 @@ module _ (a : List ℕ) (h hc key : ℕ) (cs : List ℕ) (r : ℕ) (rs cutc : Li
             shape = walked .shape;
             outside = walked .outside;
             values =
-                low-raised a b (headSums a h) (lastSums a cutc) v q
-                (made-up q d v (sumFrom (headSums a h) 1 8) (sumFrom (lastSums a cutc) 1 8) v-is above) fr ones
+                low-raised a b (headSums a h) (lastSums a cutc) v q made fr ones
                 (all-refl fr (λ x. walked .shape x .level-kept)) (walked .raised);
           }
 
@@ -172,16 +139,16 @@ module _ (a : List ℕ) (h hc key : ℕ) (cs : List ℕ) (r : ℕ) (rs cutc : Li
         same-sum : s ≡ getD sums 0 0
         same-sum = s-is ∙ walked .adjust-kept to 0 (omega arith)
 
-        rewired : Rewired b c h cut sums cutc 1
+        rewired : Rewired b c h cut sums cutc 0 1
         rewired =
-            subst (λ (l : List ℕ). Rewired b l h cut sums cutc 1)
+            subst (λ (l : List ℕ). Rewired b l h cut sums cutc 0 1)
             (sym (relinks ∙ ap (relinkOne b h (getD cutc 0 0) to 0) same-sum))
-            (rewired-turn b b h cut sums cutc 1 0 (omega arith) is-ready (rewired-none b h cut sums cutc))
+            (rewired-turn b b h cut sums cutc 0 1 (omega arith) is-ready (rewired-none b h cut sums cutc 1))
 
-        replaced : Replaced cut cutc (set cutc 0 to) 1
+        replaced : Replaced cut cutc (set cutc 0 to) 0 1
         replaced =
             let long = w .ends .long in
-            replaced-turn cut cutc cutc 0 (omega arith) (replaced-none cut cutc)
+            replaced-turn cut cutc cutc 0 1 (omega arith) (omega arith) (replaced-none cut cutc 1)
 
         relinks-all : Relinked b c h hc cs fr back cut sums cutc (set cutc 0 to) 1
         relinks-all = relinked b h hc cs fr back cut sums cutc 1 can c rewired (set cutc 0 to) replaced
@@ -193,4 +160,4 @@ module _ (a : List ℕ) (h hc key : ℕ) (cs : List ℕ) (r : ℕ) (rs cutc : Li
         pub run-cached : (heads lasts : List ℕ) → Cached a h cutc heads lasts → Cached c h (set cutc 0 to) heads lasts
         run-cached heads lasts k =
             moved-cached a h hc key cs r rs cutc w 1 one-link cut sums is-cut q b settled c (set cutc 0 to) relinks-all
-            heads lasts heads lasts k (renew-none a cut heads) (renew-none c (set cutc 0 to) lasts)
+            heads lasts heads lasts k (λ f. renew-none (cutSums sums) f heads) (λ f. renew-none (lastSums b cut) f lasts)

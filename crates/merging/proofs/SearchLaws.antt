@@ -134,8 +134,9 @@ module _ (a : List ℕ) (h key n : ℕ) (cut₀ sums₀ cut sums : List ℕ) (cu
   rest s = chain-right a (step s .before) (nxt ∷ step s .after) (subst (λ (l : List ℕ). Chain a l) (split s) (g .chain))
 
   pub going-has : Reachable a nxt
-  unfolding Reachable
-  going-has s = rest s .0 .has
+  going-has =
+      let head = g .list .linked .has in
+      record { has = lt-or-ge 0 nxt (λ s. rest s .0 .has) (λ none. omega arith); floor = g .list .floor }
 
   pub going-jump : passes a nxt key ≡ true → Going a h key n cut₀ sums₀ cut sums nxt i
   going-jump p =
@@ -234,15 +235,14 @@ going-done a h key n cut₀ sums₀ cut sums cur i g z rs s =
           g .sums-done k (omega arith) e ∙ ap (λ (l : List ℕ). adjust a (lastWith a k h (front a key l)) k) same;
     }
 
--- The test of the search: a law for each way out.
-pub none-passes : (a : List ℕ) (r key : ℕ) → r ≡ 0 → false ≡ passes a r key
+-- The test of the search: record 0, which stands for none, is below the key as its m is.
+pub floor-passes : (a : List ℕ) (r key m : ℕ) → Reachable a r × (1 ≤ key) → m ≡ word a r 1 → leb key m ≡ passes a r key
 unfolding passes
-none-passes a r key e = let few : r < 1 = omega arith in simp (lt-leb 1 r few)
-
-pub some-passes : (a : List ℕ) (r key m : ℕ) → (r ≡ 0 → ⊥) → m ≡ word a r 1 → leb key m ≡ passes a r key
-unfolding passes
-some-passes a r key m h e = let some : 1 ≤ r = omega arith in simp (le-leb 1 r some) (ap (leb key) e)
-
-pub reached : (a : List ℕ) (r : ℕ) → Reachable a r → (r ≡ 0 → ⊥) → Has a r
-unfolding Reachable
-reached a r h e = h (omega arith)
+floor-passes a r key m (reach, some) e =
+    lt-or-ge 0 r (λ one. simp (le-leb 1 r one) (ap (leb key) e))
+    (λ none.
+    let zeroth : r ≡ 0 = omega arith in
+    let low : m ≡ 0 = e ∙ ap (λ (x : ℕ). word a x 1) zeroth ∙ reach .floor in
+    let under : m < key = omega arith in
+    let few : r < 1 = omega arith in
+    simp (lt-leb 1 r few, lt-leb key m under))

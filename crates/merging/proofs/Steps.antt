@@ -25,6 +25,7 @@ use Rattle.merging.specs.Open.{OpenChain}
 use Rattle.merging.proofs.SearchLaws.{front-in}
 use Rattle.merging.specs.Carried.{paired, carried}
 use Rattle.merging.specs.Dropping.{Dropped}
+use Rattle.merging.specs.Trio.{Roomy}
 use Rattle.merging.specs.Running.{Waiting, Running}
 use Rattle.merging.proofs.Advancing.{front-behind}
 use Rattle.merging.proofs.TrioLaws.{trio-swap, trio-moved, newer-carried, trio-dropped, dropped-older, dropped-result, dropped-newer}
@@ -55,8 +56,15 @@ ordered-right : (l k : List Item) → Ordered (l ++ k) → Ordered k
 ordered-right [] k o = o
 ordered-right (y ∷ l) k o = ordered-right l k (o .1)
 
-all-kept : (a b rs : List ℕ) → ((x : ℕ) → mWord b x ≡ mWord a x) → All (λ x. mWord a x + 1 < 2 ^ 32) rs → All (λ x. mWord b x + 1 < 2 ^ 32) rs
-all-kept a b rs e h = all-map rs (λ x small. let same = e x in omega arith) h
+pub all-kept : (a b rs : List ℕ) → ((x : ℕ) → mWord b x ≡ mWord a x) → All (Roomy a) rs → All (Roomy b) rs
+all-kept a b rs e h =
+    all-map rs
+    (λ x roomy.
+    let same = e x in
+    let some = roomy .some in
+    let small = roomy .small in
+    record { some = omega arith; small = omega arith })
+    h
 
 pub waiting-swap : (a : List ℕ) (ho hn hc : ℕ) (xs ys cs ends : List ℕ) → Waiting a ho hn hc xs ys cs ends → Waiting a hn ho hc ys xs cs ends
 waiting-swap a ho hn hc xs ys cs ends w =
@@ -89,10 +97,10 @@ module _ (a b : List ℕ) (ho hn hc key q r : ℕ) (xs ys cs ends ends' : List �
   pub newer-kept : carried b (adjust b hn) ys ≡ carried a (adjust a hn) ys
   newer-kept = newer-carried a b ho hn hc key q r xs ys cs ends ends' (w .lists) d
 
-  room-left : All (λ x. mWord a x + 1 < 2 ^ 32) (behind a key (r ∷ xs))
+  room-left : All (Roomy a) (behind a key (r ∷ xs))
   room-left =
-      all-right (λ x. mWord a x + 1 < 2 ^ 32) (front a key (r ∷ xs)) (behind a key (r ∷ xs))
-      (subst (λ (l : List ℕ). All (λ x. mWord a x + 1 < 2 ^ 32) l) (front-behind a key (r ∷ xs)) (w .older-room))
+      all-right (Roomy a) (front a key (r ∷ xs)) (behind a key (r ∷ xs))
+      (subst (All (Roomy a)) (front-behind a key (r ∷ xs)) (w .older-room))
 
   pub waiting-moved : Waiting b ho hn hc (behind a key (r ∷ xs)) ys (cs ++ front a key (r ∷ xs)) ends'
   waiting-moved =

@@ -42,10 +42,11 @@ trio-swap a ho hn hc xs ys cs ends t =
       result-newer-apart = t .result-older-apart;
     }
 
-pub trio-movable : (a : List ℕ) (ho hn hc key r : ℕ) (xs ys cs ends : List ℕ) → Trio a ho hn hc (r ∷ xs) ys cs ends → key ≤ mWord a r → Movable a ho hc key cs r xs ends
-trio-movable a ho hn hc key r xs ys cs ends t h =
+pub trio-movable : (a : List ℕ) (ho hn hc key r : ℕ) (xs ys cs ends : List ℕ) → Trio a ho hn hc (r ∷ xs) ys cs ends → 1 ≤ key → key ≤ mWord a r → Movable a ho hc key cs r xs ends
+trio-movable a ho hn hc key r xs ys cs ends t some h =
     record {
       list = t .older;
+      some = some;
       first = h;
       result = t .result;
       ends = t .result-ends;
@@ -68,6 +69,7 @@ module _ (a b : List ℕ) (g : ℕ) (rs : List ℕ) (long : length b ≡ length 
         linked = linked-frame a b g rs long (same-shape a b g head) (all-map rs (λ x e. same-shape a b x e) each) (s .linked);
         falling = falling-frame a b rs same-m (s .falling);
         few = s .few;
+        floor = same-m 0 ∙ s .floor;
       }
 
   pub still-carried : carried b (adjust b g) rs ≡ carried a (adjust a g) rs
@@ -123,6 +125,7 @@ module _ (a b : List ℕ) (ho hn hc key q r : ℕ) (xs ys cs ends ends' : List �
               linked = d .list;
               falling = falling-frame a b back (d .m-kept) (falling-right a fr back (subst (λ (l : List ℕ). Falling a l) whole (t .older .falling)));
               few = back-few;
+              floor = d .m-kept 0 ∙ t .older .floor;
             };
         newer = left-alone a b hn ys (d .length-kept) (d .m-kept) newer-head newer-records (t .newer);
         result = d .result;
@@ -168,6 +171,7 @@ module _ (a b : List ℕ) (ho hn hc y : ℕ) (xs ys cs ends : List ℕ) (t : Tri
               linked = d .linked;
               falling = falling-frame a b ys (d .m-kept) (t .newer .falling .1);
               few = let f = t .newer .few in omega arith;
+              floor = d .m-kept 0 ∙ t .newer .floor;
             };
         result =
             open-frame a b hc cs (d .length-kept) (same-shape a b hc result-head)

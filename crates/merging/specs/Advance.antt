@@ -18,6 +18,7 @@ behind a key (r ∷ rs) = cond (leb key (mWord a r)) (behind a key rs) (r ∷ rs
 -- The list rs of the head h, whose first record r is not below the key, and the open list cs of the head hc share nothing.
 pub record Movable (a : List ℕ) (h hc key : ℕ) (cs : List ℕ) (r : ℕ) (rs cutc : List ℕ) : Type 0 where
   pub list : Searchable a h (r ∷ rs)
+  pub some : 1 ≤ key
   pub first : key ≤ mWord a r
   pub result : OpenLinked a hc cs
   pub ends : CutC a hc cs cutc

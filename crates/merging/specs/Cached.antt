@@ -2,11 +2,10 @@
 use mathlib.Core.Path.{_≡_}
 use mathlib.Core.Bool.{cond}
 use mathlib.Core.List.{List}
-use Prim.Native.Nat.{ℕ, _≤_, _<_}
+use Prim.Native.Nat.{ℕ, _+_, _%_, _^_}
 use lib.Dec.{ltb}
-use lib.ListN.{length, getD}
 use Rattle.arena.specs.Arena.{adjust}
-use Rattle.arena.specs.Chain.{Has}
+use Rattle.arena.specs.Lazy.{sumFrom}
 use Rattle.arena.specs.Turning.{Suffixes}
 use Rattle.merging.specs.Settled.{lastSums}
 
@@ -21,13 +20,10 @@ pub record Kept (a : List ℕ) (ho hn : ℕ) (last olders newers lasts : List �
   pub newer : Suffixes (adjust a hn) newers
   pub ends : Suffixes (lastSums a last) lasts
 
--- The sums f with those below link n replaced by the adjusts of the records that rows has for these links.
-unfoldable pub renewed : List ℕ → List ℕ → ℕ → (ℕ → ℕ) → ℕ → ℕ
-renewed a rows n f k = cond (ltb k n) (adjust a (getD rows k 0) k) (f k)
+-- The sums f with those below link n replaced by the sums g.
+unfoldable pub renewed : (ℕ → ℕ) → ℕ → (ℕ → ℕ) → ℕ → ℕ
+renewed g n f k = cond (ltb k n) (g k) (f k)
 
--- The arena has these records.
-pub record Renewable (a rows : List ℕ) (n : ℕ) (sums : List ℕ) : Type 0 where
-  pub high : n ≤ 8
-  pub long : n ≤ length rows
-  pub has : (k : ℕ) → k < n → Has a (getD rows k 0)
-  pub nine : length sums ≡ 9
+-- A record of level l whose p is raised by v has a true p that is q more under the sums g than it was under f.
+abbrev pub MakesUp : (ℕ → ℕ) → (ℕ → ℕ) → ℕ → ℕ → ℕ → Type 0
+MakesUp f g l q v = (v + sumFrom g l 8) % 2 ^ 32 ≡ (q + sumFrom f l 8) % 2 ^ 32

@@ -19,11 +19,12 @@ abbrev pub Falling : List ℕ → List ℕ → Type 0
 Falling a [] = Unit {0}
 Falling a (r ∷ rs) = All (λ x. mWord a x < mWord a r) rs × Falling a rs
 
--- A list that can be searched.
+-- A list that can be searched. The m of record 0, which is no record of a list, is 0: less than any key, so that a search stops where there is no next record.
 pub record Searchable (a : List ℕ) (h : ℕ) (rs : List ℕ) : Type 0 where
   pub linked : Linked a h rs
   pub falling : Falling a rs
   pub few : length rs ≤ 512
+  pub floor : mWord a 0 ≡ 0
 
 -- The records in front have n links: each link below n is on one of them, and none from n on.
 pub record LinkCount (a : List ℕ) (key : ℕ) (rs : List ℕ) (n : ℕ) : Type 0 where
@@ -43,6 +44,7 @@ pub record CutAt (a : List ℕ) (h key n : ℕ) (rs cut sums : List ℕ) : Type 
 unfoldable pub passes : List ℕ → ℕ → ℕ → Bool
 passes a r key = leb 1 r && leb key (mWord a r)
 
--- The arena has the record r, where r is one.
-unfoldable pub Reachable : List ℕ → ℕ → Type 0
-Reachable a r = 1 ≤ r → Has a r
+-- The arena has r, a record or 0 for none, and the m of record 0 is 0.
+pub record Reachable (a : List ℕ) (r : ℕ) : Type 0 where
+  pub has : Has a r
+  pub floor : mWord a 0 ≡ 0

@@ -1,4 +1,4 @@
--- What raising a stretch of a list by v at link k does: each record with link k has its p and its adjust k raised, so that with the sum of link k raised on entering, every true p of the stretch is raised by v. No public contract cites it.
+-- What raising a stretch of a list by v at link k does: each record with link k has its p and its adjust k raised, so that with the sum of link k raised on entering, every true p of the stretch is raised by v. Link 0 counts for no true p, and its adjusts are not said. No public contract cites it.
 use mathlib.Core.Path.{_≡_}
 use mathlib.Core.Bool.{cond}
 use mathlib.Core.List.{List, [], _∷_}
@@ -16,6 +16,7 @@ nextOr a k stop (r ∷ rs) = cond (ltb k (level a r)) r (nextOr a k stop rs)
 -- A record of a stretch in which none has link k + 1, before the records rs and stop.
 pub record Within (a : List ℕ) (k stop r : ℕ) (rs : List ℕ) : Type 0 where
   pub has : Has a r
+  pub low : 1 ≤ level a r
   pub high : level a r ≤ suc k
   pub link : k < level a r → forward a r k ≡ nextOr a k stop rs
   pub not-stop : r ≡ stop → ⊥
@@ -28,7 +29,7 @@ Stretch a k stop (r ∷ rs) = Within a k stop r rs × Stretch a k stop rs
 -- One record of the stretch, raised where it has link k and untouched where it has not.
 pub record Lifted (a b : List ℕ) (k v r : ℕ) : Type 0 where
   pub p-up : k < level a r → pWord b r ≡ wrap (pWord a r) v
-  pub adjust-up : k < level a r → adjust b r k ≡ wrap (adjust a r k) v
+  pub adjust-up : 1 ≤ k → k < level a r → adjust b r k ≡ wrap (adjust a r k) v
   pub adjust-other : (j : ℕ) → j < 8 → (j ≡ k → ⊥) → adjust b r j ≡ adjust a r j
   pub untouched : level a r ≤ k → Same a b r
 

@@ -9,8 +9,9 @@ use Rattle.arena.specs.Arena.{level, mWord}
 use Rattle.arena.specs.Lazy.{held}
 use Rattle.arena.specs.Chain.{Has, All, Away, Linked, Same}
 use Rattle.arena.specs.Building.{Built}
+use Rattle.merging.specs.Trio.{Roomy}
 
--- The lists xs and ys of the heads ho and hn share nothing and hc is apart from both; they are ordered, and no sum of a p of each, and no m with 1 added, leaves 32 bits.
+-- The lists xs and ys of the heads ho and hn share nothing and hc is apart from both; they are ordered, and no sum of a p of each leaves 32 bits.
 pub record Mergeable (a : List ℕ) (ho hn hc : ℕ) (xs ys : List ℕ) : Type 0 where
   pub older : Linked a ho xs
   pub newer : Linked a hn ys
@@ -28,8 +29,8 @@ pub record Mergeable (a : List ℕ) (ho hn hc : ℕ) (xs ys : List ℕ) : Type 0
   pub older-order : Ordered (items (held a ho [] xs))
   pub newer-order : Ordered (items (held a hn [] ys))
   pub small : (x y : Recorded) → List·Memᴰ x (held a ho [] xs) → List·Memᴰ y (held a hn [] ys) → x .item .p + y .item .p < 2 ^ 32
-  pub older-room : All (λ x. mWord a x + 1 < 2 ^ 32) xs
-  pub newer-room : All (λ x. mWord a x + 1 < 2 ^ 32) ys
+  pub older-room : All (Roomy a) xs
+  pub newer-room : All (Roomy a) ys
 
 -- The head hc has the record-carrying merge of the two lists. Free are the heads ho and hn, and of the records of the two lists all words but the level, except as the new list says.
 pub record Merged (a b : List ℕ) (ho hn hc : ℕ) (xs ys : List ℕ) : Type 0 where

@@ -55,6 +55,7 @@ pub record Relinkable (a : List ℕ) (h hc : ℕ) (cs front back cut sums cutc :
   pub head-away : Away h cs
   pub result-away : Away hc (front ++ back)
   pub apart : All (λ r. Away r (front ++ back)) cs
+  pub some : 1 ≤ n
   pub high : n ≤ 8
   pub with-link : (k : ℕ) → k < n → 1 ≤ nextWith a k front
   pub lower : All (λ r. level a r ≤ n) front
@@ -68,6 +69,7 @@ pub record Relinked (a b : List ℕ) (h hc : ℕ) (cs front back cut sums cutc c
   pub list : Linked b h back
   pub result : OpenLinked b hc (cs ++ front)
   pub ends : CutC b hc (cs ++ front) cutd
+  pub replaced : (k : ℕ) → k < n → getD cutd k 0 ≡ getD cut k 0
   pub level-kept : (x : ℕ) → level b x ≡ level a x
   pub m-kept : (x : ℕ) → mWord b x ≡ mWord a x
   pub p-kept : (x : ℕ) → pWord b x ≡ pWord a x

@@ -10,16 +10,16 @@ use Rattle.slicing.specs.Recorded.{Recorded, mergeRecorded, items}
 use Rattle.arena.specs.Arena.{level, mWord, forward, adjust}
 use Rattle.arena.specs.Chain.{All, Away, Same}
 use Rattle.merging.specs.Carried.{carried}
-use Rattle.merging.specs.Trio.{Trio}
+use Rattle.merging.specs.Trio.{Roomy, Trio}
 
--- The lists xs and ys wait: they are ordered, and no sum of a p of each, and no m with 1 added, leaves 32 bits.
+-- The lists xs and ys wait: they are ordered, and no sum of a p of each leaves 32 bits.
 pub record Waiting (a : List ℕ) (ho hn hc : ℕ) (xs ys cs ends : List ℕ) : Type 0 where
   pub lists : Trio a ho hn hc xs ys cs ends
   pub older-order : Ordered (items (carried a (adjust a ho) xs))
   pub newer-order : Ordered (items (carried a (adjust a hn) ys))
   pub small : (x y : Recorded) → List·Memᴰ x (carried a (adjust a ho) xs) → List·Memᴰ y (carried a (adjust a hn) ys) → x .item .p + y .item .p < 2 ^ 32
-  pub older-room : All (λ x. mWord a x + 1 < 2 ^ 32) xs
-  pub newer-room : All (λ x. mWord a x + 1 < 2 ^ 32) ys
+  pub older-room : All (Roomy a) xs
+  pub newer-room : All (Roomy a) ys
 
 -- And cs is finished: all is the whole list that the merge is to give.
 pub record Running (a : List ℕ) (ho hn hc : ℕ) (xs ys cs ends : List ℕ) (all : List Recorded) : Type 0 where

@@ -1,10 +1,10 @@
 -- What settling the front of a list does: the front is to be entered with the sums of another list's last records, and each of its true p is raised by q, while links, levels and m stay. No public contract cites it.
 use mathlib.Core.Path.{_≡_}
 use mathlib.Core.List.{List, _++_, map}
-use Prim.Native.Nat.{ℕ, _+_, _-_, _%_, _^_, _≤_, _<_}
+use Prim.Native.Nat.{ℕ, _-_, _≤_, _<_}
 use lib.ListN.{length, getD}
 use Rattle.arena.specs.Arena.{level, adjust}
-use Rattle.arena.specs.Lazy.{lastWith, sumFrom}
+use Rattle.arena.specs.Lazy.{lastWith}
 use Rattle.arena.specs.Chain.{Has, wrap, All, Away, Linked, trues, Same, Shape}
 
 -- The sums of a head, and those of the last record with each link.
@@ -14,20 +14,15 @@ headSums a head k = adjust a head k
 abbrev pub lastSums : List ℕ → List ℕ → ℕ → ℕ
 lastSums a last k = adjust a (getD last k 0) k
 
+-- The sums at a cut, as the search found them.
+abbrev pub cutSums : List ℕ → ℕ → ℕ
+cutSums sums k = getD sums k 0
+
 -- The arena has the head and the last record with each link.
 pub record Ends (a : List ℕ) (head : ℕ) (last : List ℕ) : Type 0 where
   pub head-has : Has a head
   pub long : 8 ≤ length last
   pub last-has : (k : ℕ) → k < 8 → Has a (getD last k 0)
-
--- The carry d follows the carry c where the sum of the record `last` takes the place of the head's at link k.
-abbrev pub Carried : List ℕ → ℕ → ℕ → ℕ → ℕ → ℕ → Type 0
-Carried a head last k c d = (d + adjust a last k) % 2 ^ 32 ≡ (c + adjust a head k) % 2 ^ 32
-
--- The sums of the head from link n up to m are d more than those of the last records.
-abbrev pub Above : List ℕ → ℕ → List ℕ → ℕ → ℕ → ℕ → Type 0
-Above a head last n m d =
-    (d + sumFrom (lastSums a last) n m) % 2 ^ 32 ≡ sumFrom (headSums a head) n m % 2 ^ 32
 
 -- The front of a list can be settled: n is the most links that one of its records has, `cut` has the last one with the highest link, and `cutc` the records whose sums it is to be entered with, which are not of the front.
 pub record Ready (a : List ℕ) (head n : ℕ) (cut cutc front back : List ℕ) : Type 0 where

@@ -1,10 +1,16 @@
 -- The three lists of a merge while it runs: what is left of the older and of the newer list, and the open result. No public contract cites it.
 use mathlib.Core.Path.{_≡_}
 use mathlib.Core.List.{List}
-use Prim.Native.Nat.{ℕ}
+use Prim.Native.Nat.{ℕ, _+_, _^_, _≤_, _<_}
+use Rattle.arena.specs.Arena.{mWord}
 use Rattle.arena.specs.Chain.{All, Away}
 use Rattle.merging.specs.Cut.{Searchable}
 use Rattle.merging.specs.Open.{OpenLinked, CutC}
+
+-- The m of a record is 1 or more, and with 1 added it does not leave 32 bits.
+pub record Roomy (a : List ℕ) (x : ℕ) : Type 0 where
+  pub some : 1 ≤ mWord a x
+  pub small : mWord a x + 1 < 2 ^ 32
 
 -- The lists xs, ys and cs of the heads ho, hn and hc share no record, and no head is on one.
 pub record Trio (a : List ℕ) (ho hn hc : ℕ) (xs ys cs ends : List ℕ) : Type 0 where

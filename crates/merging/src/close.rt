@@ -5,13 +5,13 @@ ghost use Rattle.merging.specs.Open.{OpenLinked, CutC, Closed};
 use arena::words::store;
 
 // Makes forward k of the last record with link k 0, for every k.
-pub fn close(arena: &mut [u32], cutc: &[usize])
-    requires { ⌜ ((h : ℕ) × (cs : List ℕ) × OpenLinked (now arena) h cs × CutC (now arena) h cs (now cutc)) ⌝ }
-    ensures { λ _. ⌜ ((h : ℕ) (cs : List ℕ) → OpenLinked (now (arena .entry)) h cs → CutC (now (arena .entry)) h cs (now (cutc .entry)) → Closed (now (arena .entry)) (now (arena .exit)) h cs (now (cutc .entry))) ⌝ }
+pub fn close(arena: &mut [u32], ends: &[usize])
+    requires { ⌜ ((h : ℕ) × (cs : List ℕ) × OpenLinked (now arena) h cs × CutC (now arena) h cs (now ends)) ⌝ }
+    ensures { λ _. ⌜ ((h : ℕ) (cs : List ℕ) → OpenLinked (now (arena .entry)) h cs → CutC (now (arena .entry)) h cs (now (ends .entry)) → Closed (now (arena .entry)) (now (arena .exit)) h cs (now (ends .entry))) ⌝ }
 {
     let mut k = 0;
     while k < 8 {
-        store(arena, cutc[k], 3 + k, 0);
+        store(arena, ends[k], 3 + k, 0);
         k += 1;
     }
 }

@@ -7,8 +7,6 @@ ghost use Rattle.arena.specs.Arena.{forward};
 ghost use Rattle.merging.specs.Cut.{front, passes};
 ghost use Rattle.merging.specs.Advance.{behind, Movable, Moved};
 ghost use Rattle.merging.specs.Cached.{Cached};
-use crate::cache::renew;
-use crate::cache::sums_above;
 use crate::relink::relink;
 use crate::search::count_links;
 use crate::search::search;
@@ -21,23 +19,20 @@ pub fn cut_run(
     head: usize,
     key: u32,
     q: u32,
-    cutc: &mut [usize],
+    ends: &mut [usize],
     sums: &mut [u32],
     lasts: &mut [u32],
 )
-    requires { ⌜ ((hc : ℕ) × (cs : List ℕ) × (r : ℕ) × (rs : List ℕ) × Movable (now arena) head hc key cs r rs (now cutc)) ⌝ }
+    requires { ⌜ ((hc : ℕ) × (cs : List ℕ) × (r : ℕ) × (rs : List ℕ) × Movable (now arena) head hc key cs r rs (now ends)) ⌝ }
     requires { ⌜ passes (now arena) (forward (now arena) head 1) key ≡ true ⌝ }
-    requires { ⌜ Cached (now arena) head (now cutc) (now sums) (now lasts) ⌝ }
-    ensures { λ _. ⌜ ((hc : ℕ) (cs : List ℕ) (r : ℕ) (rs : List ℕ) → Movable (now (arena .entry)) head hc key cs r rs (now (cutc .entry)) → Moved (now (arena .entry)) (now (arena .exit)) head hc q cs (front (now (arena .entry)) key (r ∷ rs)) (behind (now (arena .entry)) key (r ∷ rs)) (now (cutc .exit))) ⌝ }
-    ensures { λ _. ⌜ Cached (now (arena .exit)) head (now (cutc .exit)) (now (sums .exit)) (now (lasts .exit)) ⌝ }
+    requires { ⌜ Cached (now arena) head (now ends) (now sums) (now lasts) ⌝ }
+    ensures { λ _. ⌜ ((hc : ℕ) (cs : List ℕ) (r : ℕ) (rs : List ℕ) → Movable (now (arena .entry)) head hc key cs r rs (now (ends .entry)) → Moved (now (arena .entry)) (now (arena .exit)) head hc q cs (front (now (arena .entry)) key (r ∷ rs)) (behind (now (arena .entry)) key (r ∷ rs)) (now (ends .exit))) ⌝ }
+    ensures { λ _. ⌜ Cached (now (arena .exit)) head (now (ends .exit)) (now (sums .exit)) (now (lasts .exit)) ⌝ }
 {
     let mut cut = [0usize; 8];
-    let mut open = [0u32; 8];
+    let mut found = [0u32; 8];
     let n = count_links(arena, head, key);
-    search(arena, head, key, n, &mut cut, &mut open);
-    let d = sums_above(sums, lasts, n);
-    renew(arena, &cut, n, sums);
-    settle(arena, head, &cut, cutc, n, q, d);
-    relink(arena, head, &cut, &open, cutc, n);
-    renew(arena, cutc, n, lasts);
+    search(arena, head, key, n, &mut cut, &mut found);
+    settle(arena, head, &cut, n, q, sums, lasts);
+    relink(arena, head, &cut, &found, n, ends, sums, lasts);
 }

@@ -1,13 +1,15 @@
 // The maxplus merge of two lazy lists in an arena: its parts, each proved with its effect on the lists.
 mod advance;
-mod cache;
 mod close;
 mod cut_run;
 mod drop_first;
+mod lift;
 pub mod merge;
+mod move_one;
 mod newer_step;
 mod older_step;
 mod raise_chain;
+mod raise_lowest;
 mod relink;
 mod runs;
 mod search;

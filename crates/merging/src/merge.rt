@@ -7,15 +7,15 @@ use crate::runs::merge_runs;
 use arena::empty::clear_head;
 use arena::sums::enter;
 
-// Makes the list of a third head the merge of the lists of two heads: whole runs of records change lists at once, and
-// an adjust raises all that it covers. The sums of the heads and of the ends are kept beside the arena. The two heads are
-// used up.
-pub fn merge(arena: &mut [u32], older: usize, newer: usize, result: usize)
-    requires { ⌜ ((xs : List ℕ) × (ys : List ℕ) × Mergeable (now arena) older newer result xs ys) ⌝ }
-    ensures { λ _. ⌜ ((xs ys : List ℕ) → Mergeable (now (arena .entry)) older newer result xs ys → Merged (now (arena .entry)) (now (arena .exit)) older newer result xs ys) ⌝ }
+// Makes the list of record 0 the merge of the lists of two heads: whole runs of records change lists at once, and an
+// adjust raises all that it covers. The sums of the heads and of the ends are kept beside the arena. Record 0 is cleared
+// first, so that its m ends every search. The two heads are used up.
+pub fn merge(arena: &mut [u32], older: usize, newer: usize)
+    requires { ⌜ ((xs : List ℕ) × (ys : List ℕ) × Mergeable (now arena) older newer 0 xs ys) ⌝ }
+    ensures { λ _. ⌜ ((xs ys : List ℕ) → Mergeable (now (arena .entry)) older newer 0 xs ys → Merged (now (arena .entry)) (now (arena .exit)) older newer 0 xs ys) ⌝ }
 {
-    clear_head(arena, result);
-    let mut ends = [result; 8];
+    clear_head(arena, 0);
+    let mut ends = [0usize; 8];
     let mut olders = [0u32; 9];
     let mut newers = [0u32; 9];
     let mut lasts = [0u32; 9];

@@ -2,8 +2,12 @@
 ghost use mathlib.Core.Path.{_≡_};
 ghost use mathlib.Core.List.{List};
 ghost use Prim.Native.Nat.{ℕ, _<_};
+ghost use lib.ListN.{length};
 ghost use Rattle.arena.specs.Chain.{Has};
+ghost use Rattle.arena.specs.Turning.{Suffixes};
+ghost use Rattle.merging.specs.Cached.{renewed};
 ghost use Rattle.merging.specs.Open.{relinkOne, Relinkable, Relinked};
+ghost use Rattle.merging.specs.Settled.{lastSums, cutSums};
 use arena::words::get;
 use arena::words::store;
 
@@ -19,23 +23,37 @@ pub fn relink_one(arena: &mut [u32], head: usize, from: usize, to: usize, k: usi
     store(arena, head, 11 + k, v);
 }
 
-// Moves the records in front, whose last ones with each link below n are in `cut`, behind the ends `cutc` of an open list.
+// Moves the records in front, whose last ones with each link below n are in `cut` and the adjusts that these had in
+// `found`, behind the ends of an open list. The sums of the head and those of the ends are renewed on the way down; link
+// 0 counts for none of them.
 pub fn relink(
     arena: &mut [u32],
     head: usize,
     cut: &[usize],
-    sums: &[u32],
-    cutc: &mut [usize],
+    found: &[u32],
     n: usize,
+    ends: &mut [usize],
+    sums: &mut [u32],
+    lasts: &mut [u32],
 )
-    requires { ⌜ ((hc : ℕ) × (cs : List ℕ) × (front : List ℕ) × (back : List ℕ) × Relinkable (now arena) head hc cs front back (now cut) (now sums) (now cutc) n) ⌝ }
-    ensures { λ _. ⌜ ((hc : ℕ) (cs front back : List ℕ) → Relinkable (now (arena .entry)) head hc cs front back (now (cut .entry)) (now (sums .entry)) (now (cutc .entry)) n → Relinked (now (arena .entry)) (now (arena .exit)) head hc cs front back (now (cut .entry)) (now (sums .entry)) (now (cutc .entry)) (now (cutc .exit)) n) ⌝ }
+    requires { ⌜ ((hc : ℕ) × (cs : List ℕ) × (front : List ℕ) × (back : List ℕ) × Relinkable (now arena) head hc cs front back (now cut) (now found) (now ends) n) ⌝ }
+    requires { ⌜ (length (now sums) ≡ 9) × (length (now lasts) ≡ 9) ⌝ }
+    ensures { λ _. ⌜ ((hc : ℕ) (cs front back : List ℕ) → Relinkable (now (arena .entry)) head hc cs front back (now (cut .entry)) (now (found .entry)) (now (ends .entry)) n → Relinked (now (arena .entry)) (now (arena .exit)) head hc cs front back (now (cut .entry)) (now (found .entry)) (now (ends .entry)) (now (ends .exit)) n) ⌝ }
+    ensures { λ _. ⌜ ((f : ℕ → ℕ) → Suffixes f (now (sums .entry)) → Suffixes (renewed (cutSums (now (found .entry))) n f) (now (sums .exit))) ⌝ }
+    ensures { λ _. ⌜ ((f : ℕ → ℕ) → Suffixes f (now (lasts .entry)) → Suffixes (renewed (lastSums (now (arena .entry)) (now (cut .entry))) n f) (now (lasts .exit))) ⌝ }
 {
-    let mut k = 0;
-    while k < n {
+    let mut i = n;
+    while 1 < i {
+        let k = i - 1;
         let to = cut[k];
-        relink_one(arena, head, cutc[k], to, k, sums[k]);
-        cutc[k] = to;
-        k += 1;
+        let adjust = found[k];
+        relink_one(arena, head, ends[k], to, k, adjust);
+        ends[k] = to;
+        sums[k] = std::num::wrapping_add_u32(sums[i], adjust);
+        lasts[k] = std::num::wrapping_add_u32(lasts[i], get(arena, to, 11 + k));
+        i = k;
     }
+    let to = cut[0];
+    relink_one(arena, head, ends[0], to, 0, found[0]);
+    ends[0] = to;
 }

@@ -2,13 +2,13 @@
 ghost use mathlib.Core.Path.{_≡_};
 ghost use mathlib.Core.Bool.{false};
 ghost use mathlib.Core.List.{List, _∷_};
-ghost use Prim.Native.Nat.{ℕ};
+ghost use Prim.Native.Nat.{ℕ, _≤_};
 ghost use Rattle.arena.specs.Arena.{forward};
 ghost use Rattle.merging.specs.Cut.{front, passes, Searchable};
 ghost use Rattle.merging.specs.Walk.{Walked};
 ghost use Rattle.merging.specs.Advance.{behind, Movable, Moved};
 ghost use Rattle.merging.specs.Cached.{Cached};
-use crate::cache::sums_above;
+use crate::lift::lift;
 use crate::relink::relink_one;
 use crate::search::may_pass;
 use arena::words::get;
@@ -17,7 +17,7 @@ use arena::words::wide;
 
 // Raises by v the p of each record in front of a list, and finds the last of them, the head where there is none.
 fn walk(arena: &mut [u32], head: usize, key: u32, v: u32) -> usize
-    requires { ⌜ ((rs : List ℕ) × Searchable (now arena) head rs) ⌝ }
+    requires { ⌜ ((rs : List ℕ) × Searchable (now arena) head rs) × (1 ≤ key) ⌝ }
     ensures { λ to. ⌜ ((rs : List ℕ) → Searchable (now (arena .entry)) head rs → Walked (now (arena .entry)) (now (arena .exit)) head key v rs to) ⌝ }
 {
     let mut cur = head;
@@ -39,19 +39,19 @@ pub fn walk_run(
     head: usize,
     key: u32,
     q: u32,
-    cutc: &mut [usize],
+    ends: &mut [usize],
     sums: &[u32],
     lasts: &[u32],
 )
-    requires { ⌜ ((hc : ℕ) × (cs : List ℕ) × (r : ℕ) × (rs : List ℕ) × Movable (now arena) head hc key cs r rs (now cutc)) ⌝ }
+    requires { ⌜ ((hc : ℕ) × (cs : List ℕ) × (r : ℕ) × (rs : List ℕ) × Movable (now arena) head hc key cs r rs (now ends)) ⌝ }
     requires { ⌜ passes (now arena) (forward (now arena) head 1) key ≡ false ⌝ }
-    requires { ⌜ Cached (now arena) head (now cutc) (now sums) (now lasts) ⌝ }
-    ensures { λ _. ⌜ ((hc : ℕ) (cs : List ℕ) (r : ℕ) (rs : List ℕ) → Movable (now (arena .entry)) head hc key cs r rs (now (cutc .entry)) → Moved (now (arena .entry)) (now (arena .exit)) head hc q cs (front (now (arena .entry)) key (r ∷ rs)) (behind (now (arena .entry)) key (r ∷ rs)) (now (cutc .exit))) ⌝ }
-    ensures { λ _. ⌜ Cached (now (arena .exit)) head (now (cutc .exit)) (now (sums .entry)) (now (lasts .entry)) ⌝ }
+    requires { ⌜ Cached (now arena) head (now ends) (now sums) (now lasts) ⌝ }
+    ensures { λ _. ⌜ ((hc : ℕ) (cs : List ℕ) (r : ℕ) (rs : List ℕ) → Movable (now (arena .entry)) head hc key cs r rs (now (ends .entry)) → Moved (now (arena .entry)) (now (arena .exit)) head hc q cs (front (now (arena .entry)) key (r ∷ rs)) (behind (now (arena .entry)) key (r ∷ rs)) (now (ends .exit))) ⌝ }
+    ensures { λ _. ⌜ Cached (now (arena .exit)) head (now (ends .exit)) (now (sums .entry)) (now (lasts .entry)) ⌝ }
 {
-    let v = std::num::wrapping_add_u32(q, sums_above(sums, lasts, 1));
+    let v = lift(q, sums, lasts, 1);
     let to = walk(arena, head, key, v);
     let sum = get(arena, to, 11);
-    relink_one(arena, head, cutc[0], to, 0, sum);
-    cutc[0] = to;
+    relink_one(arena, head, ends[0], to, 0, sum);
+    ends[0] = to;
 }

@@ -9,7 +9,7 @@ use Rattle.slicing.specs.Tree.{Tree, gauge, beside, stacked, sizesOf, gaugeCoun
 use Rattle.slicing.specs.Good.{Good}
 use Rattle.slicing.specs.Recorded.{Recorded, mergeRecorded, turnRecorded, shapesRecorded, partRecorded}
 use Rattle.slicing.proofs.Depths.{depth-few}
-use Rattle.slicing.proofs.PartLists.{part-gauge, part-beside, part-stacked, shapes-stacked, recorded-ordered, turned-ordered, recorded-low, turned-low, recorded-few, turned-few}
+use Rattle.slicing.proofs.PartLists.{part-gauge, part-beside, part-stacked, shapes-stacked, recorded-ordered, turned-ordered, recorded-some, turned-some, recorded-low, turned-low, recorded-few, turned-few}
 use Rattle.facefile.proofs.Took.{Cut, cut-beside, cut-stacked}
 use Rattle.parts.specs.Part.{Suits}
 use Rattle.parts.specs.Joining.{turnedIf}
@@ -32,6 +32,7 @@ faces-suit kind cut cut-beside r t good few sizes =
     subst (λ (l : List Recorded). Suits l) (sym (beside-faces r t))
     (record {
       ordered = recorded-ordered 0 r t good;
+      some = λ x i. recorded-some r t good x i .0;
       low = λ x i. let b = recorded-low r t good x i in let m = b .0 in let p = b .1 in (omega arith, omega arith);
       few = let f = recorded-few 0 r t good in let some = depth-few t in omega arith;
     })
@@ -39,6 +40,7 @@ faces-suit kind cut cut-stacked r t good few sizes =
     subst (λ (l : List Recorded). Suits l) (sym (stacked-faces r t))
     (record {
       ordered = turned-ordered 0 r t good;
+      some = λ x i. turned-some r t good x i .0;
       low = λ x i. let b = turned-low r t good x i in let m = b .0 in let p = b .1 in (omega arith, omega arith);
       few = let f = turned-few 0 r t good in let some = depth-few t in omega arith;
     })

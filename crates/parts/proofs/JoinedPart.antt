@@ -14,6 +14,7 @@ use Rattle.arena.specs.Chain.{All, Away, Same}
 use Rattle.arena.proofs.Cases.{lt-or-ge}
 use Rattle.arena.proofs.Frames.{all-map}
 use Rattle.arena.proofs.PutLaws.{same-trans}
+use Rattle.merging.specs.Trio.{Roomy}
 use Rattle.merging.specs.Merge.{Mergeable, Merged}
 use Rattle.parts.specs.Part.{headOf, Part, Suits}
 use Rattle.parts.specs.Copying.{Copied}
@@ -49,10 +50,10 @@ module _ (levels c : List ℕ) (x y lo mid hi : ℕ) (l k : List Recorded) (p : 
   below : (low high z : ℕ) (rs : List ℕ) → z < low → All (λ u. (low ≤ u) × (u < high)) rs → Away z rs
   below low high z rs under inside = away-out low high z rs (λ i. let v = i .0 in omega arith) inside
 
-  room : (h low high : ℕ) (g : List Recorded) (z : Part levels c h low high g) → Suits g → All (λ u. mWord c u + 1 < 2 ^ 32) (z .list)
+  room : (h low high : ℕ) (g : List Recorded) (z : Part levels c h low high g) → Suits g → All (Roomy c) (z .list)
   room h low high g z suits =
-      all-map (z .list) (λ u few. omega arith)
-      (held-all (λ m. m ≤ 64_000) c h [] (z .list) (λ u i. suits .low u (subst (λ (r : List Recorded). List·Memᴰ u r) (z .holds) i) .0))
+      all-map (z .list) (λ u few. let low = few .0 in let high = few .1 in record { some = omega arith; small = omega arith })
+      (held-all (λ m. (1 ≤ m) × (m ≤ 64_000)) c h [] (z .list) (λ u i. let in-list = subst (λ (r : List Recorded). List·Memᴰ u r) (z .holds) i in (suits .some u in-list, suits .low u in-list .0)))
 
   pub mergeable : Mergeable c x y 0 (p .list) (q .list)
   mergeable =

@@ -26,6 +26,7 @@ pub record Part (levels a : List ℕ) (h lo hi : ℕ) (l : List Recorded) : Type
 -- A list that can be merged: ordered, with no number above 64 times 1,000, and not too long.
 pub record Suits (l : List Recorded) : Type 0 where
   pub ordered : Ordered (items l)
+  pub some : (x : Recorded) → List·Memᴰ x l → 1 ≤ x .item .m
   pub low : (x : Recorded) → List·Memᴰ x l → (x .item .m ≤ 64_000) × (x .item .p ≤ 64_000)
   pub few : length l ≤ 512
 

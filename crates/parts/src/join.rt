@@ -33,6 +33,6 @@ pub fn join(arena: &mut [u32], place: usize, older: bool, newer: bool)
 {
     let first = facing(arena, FIRST + place, OLDER_TURNED, older);
     let second = facing(arena, FIRST + (place + 1), NEWER_TURNED, newer);
-    merge(arena, first, second, 0);
+    merge(arena, first, second);
     copy_head(arena, 0, FIRST + place);
 }

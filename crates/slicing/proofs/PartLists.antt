@@ -91,19 +91,41 @@ extent-low (stacked a b) h c =
     let y = extent-low b (h .1) (c .1) in
     (omega (arith, gauges-joined a b), omega (arith, gauges-joined a b))
 
+-- And how high: 1 at least, as the sizes are.
+extent-some : (t : Tree) → Good t → (c : Choice t) → (1 ≤ extent 0 t c .m) × (1 ≤ extent 0 t c .p)
+extent-some (gauge s) h c = let z = h .limited (c .0) (c .1) in (z .high, z .wide)
+extent-some (beside a b) h c =
+    let x = extent-some a (h .0) (c .0) in let y = extent-some b (h .1) (c .1) in (omega arith, omega arith)
+extent-some (stacked a b) h c =
+    let x = extent-some a (h .0) (c .0) in let y = extent-some b (h .1) (c .1) in (omega arith, omega arith)
+
+-- What holds of the extent of every choice holds of each item, since each comes from a choice.
+shapes-all : (P : Item → Type 0) (t : Tree) → Good t → ((c : Choice t) → P (extent 0 t c)) → (z : Item) → List·Memᴰ z (shapes 0 t) → P z
+shapes-all P t h each z i = let chosen = shapes-chosen 0 t z h i in subst P (chosen .same) (each (chosen .choice))
+
+recorded-all : (P : Item → Type 0) (r : ℕ) (t : Tree) → Good t → ((c : Choice t) → P (extent 0 t c)) → (x : Recorded) → List·Memᴰ x (shapesRecorded 0 r t) → P (x .item)
+recorded-all P r t h each x i =
+    shapes-all P t h each (x .item)
+    (subst (λ (l : List Item). List·Memᴰ (x .item) l) (items-shapes 0 r t) (Memᴰ·map (λ (y : Recorded). y .item) i))
+
 pub shapes-low : (t : Tree) → Good t → (z : Item) → List·Memᴰ z (shapes 0 t) → (z .m ≤ 1_000 * gaugeCount t) × (z .p ≤ 1_000 * gaugeCount t)
-shapes-low t h z i =
-    let chosen = shapes-chosen 0 t z h i in subst (Low (gaugeCount t)) (chosen .same) (extent-low t h (chosen .choice))
+shapes-low t h = shapes-all (Low (gaugeCount t)) t h (extent-low t h)
 
 pub recorded-low : (r : ℕ) (t : Tree) → Good t → (x : Recorded) → List·Memᴰ x (shapesRecorded 0 r t) → (x .item .m ≤ 1_000 * gaugeCount t) × (x .item .p ≤ 1_000 * gaugeCount t)
-recorded-low r t h x i =
-    shapes-low t h (x .item)
-    (subst (λ (l : List Item). List·Memᴰ (x .item) l) (items-shapes 0 r t) (Memᴰ·map (λ (y : Recorded). y .item) i))
+recorded-low r t h = recorded-all (Low (gaugeCount t)) r t h (extent-low t h)
+
+pub recorded-some : (r : ℕ) (t : Tree) → Good t → (x : Recorded) → List·Memᴰ x (shapesRecorded 0 r t) → (1 ≤ x .item .m) × (1 ≤ x .item .p)
+recorded-some r t h = recorded-all (λ z. (1 ≤ z .m) × (1 ≤ z .p)) r t h (extent-some t h)
 
 pub turned-low : (r : ℕ) (t : Tree) → Good t → (x : Recorded) → List·Memᴰ x (turnRecorded (shapesRecorded 0 r t)) → (x .item .m ≤ 1_000 * gaugeCount t) × (x .item .p ≤ 1_000 * gaugeCount t)
 turned-low r t h x i =
     let low = recorded-low r t h (swapRecorded x) (turn-out-recorded x (shapesRecorded 0 r t) i) in
     (low .1, low .0)
+
+pub turned-some : (r : ℕ) (t : Tree) → Good t → (x : Recorded) → List·Memᴰ x (turnRecorded (shapesRecorded 0 r t)) → (1 ≤ x .item .m) × (1 ≤ x .item .p)
+turned-some r t h x i =
+    let some = recorded-some r t h (swapRecorded x) (turn-out-recorded x (shapesRecorded 0 r t) i) in
+    (some .1, some .0)
 
 -- How many they are.
 pub recorded-few : (gap r : ℕ) (t : Tree) → Good t → length (shapesRecorded gap r t) + gaugeCount t ≤ sizeCount t + 1

@@ -1,5 +1,5 @@
 -- `arena::empty::clear_head` meets its contract.
--- The loop keeps `Clearing`, that the words of the head from 3 up to j are 0; the measure is what is left of the record.
+-- The loop keeps `Clearing`, that the words of the head from 1 up to j are 0; the measure is what is left of the record.
 use borrow.Author.Needs.{needs}
 use Prim.Native.Nat.{_-_}
 use Rattle.arena.specs.Arena.{stride}

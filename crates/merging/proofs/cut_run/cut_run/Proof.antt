@@ -1,8 +1,8 @@
 -- `merging::cut_run::cut_run` meets its contract: the front stands behind the open list, raised, the list keeps the rest, and the sums kept are right again.
 -- The calls are those whose effects `Advancing` puts together.
 use mathlib.Core.List.{_∷_}
-use Rattle.merging.proofs.Advancing.{cut-renewable, can-settle, can-relink, moved, ends-renewable, moved-cached}
 use borrow.Author.Needs.{needs}
+use Rattle.merging.proofs.Advancing.{can-settle, can-relink, moved, moved-cached}
 use Rattle.merging.proofs.cut_run.cut_run.Statement.{statement}
 use Rattle.merging.proofs.cut_run.cut_run.Tie as tie
 
@@ -17,43 +17,23 @@ slice-aggregate-search-2 c = search needs
 
 search-requires : tie.Need-search-requires
 search-requires c κs =
-    let at-count-links = c .before .before .before in
-    let p = at-count-links .before .before .before .before .before .before .pre .0 in
-    ((_, p .4 .list), (at-count-links .count-links .ensures (p .2 ∷ p .3) (p .4 .list) .few, search needs, search needs))
-
-sums-above-requires : tie.Need-sums-above-requires
-sums-above-requires c κs =
-    let at-count-links = c .before .before .before .before .before .before .before .before in
-    let entry = at-count-links .before .before .before .before .before .before in
-    let p = entry .pre .0 in
-    let counted = at-count-links .count-links .ensures (p .2 ∷ p .3) (p .4 .list) in
-    (counted .some, counted .few, entry .pre .1 .1 .head .nine, entry .pre .1 .1 .ends .nine)
-
-slice-aggregate-renew : tie.Need-slice-aggregate-renew
-slice-aggregate-renew c = search needs
-
-renew-requires : tie.Need-renew-requires
-renew-requires c κs =
-    let at-search = c .before .before .before .before .before .before .before .before in
-    let at-count-links = at-search .before .before .before .before in
-    let entry = at-count-links .before .before .before .before .before .before in
-    let p = entry .pre .0 in
-    let counted = at-count-links .count-links .ensures (p .2 ∷ p .3) (p .4 .list) in
-    let cut = at-search .search .ensures (p .2 ∷ p .3) (p .4 .list) in
-    cut-renewable _ _ (p .0) _ (p .1) (p .2) (p .3) _ (p .4) _ counted _ _ cut _ (entry .pre .1 .1 .head .nine)
+    let at-count = c .before .before .before in
+    let p = at-count .before .before .before .before .before .before .pre .0 in
+    (((_, p .4 .list), p .4 .some), (at-count .count-links .ensures (p .2 ∷ p .3) (p .4 .list) .few, search needs, search needs))
 
 slice-aggregate-settle : tie.Need-slice-aggregate-settle
 slice-aggregate-settle c = search needs
 
 settle-requires : tie.Need-settle-requires
 settle-requires c κs =
-    let at-search = c .before .before .before .before .before .before .before .before .before .before .before .before .before .before in
-    let at-count-links = at-search .before .before .before .before in
-    let entry = at-count-links .before .before .before .before .before .before in
+    let at-search = c .before .before .before .before .before .before in
+    let at-count = at-search .before .before .before .before in
+    let entry = at-count .before .before .before .before .before .before in
     let p = entry .pre .0 in
-    let counted = at-count-links .count-links .ensures (p .2 ∷ p .3) (p .4 .list) in
+    let counted = at-count .count-links .ensures (p .2 ∷ p .3) (p .4 .list) in
     let cut = at-search .search .ensures (p .2 ∷ p .3) (p .4 .list) in
-    ((_, _, can-settle _ _ (p .0) _ (p .1) (p .2) (p .3) _ (p .4) _ counted _ _ cut), c .before .before .before .before .before .before .before .before .before .sums-above .ensures _ _ (entry .pre .1 .1 .head) (entry .pre .1 .1 .ends))
+    let ready = can-settle _ _ (p .0) _ (p .1) (p .2) (p .3) _ (p .4) _ counted _ _ cut in
+    (_, _, _, ready, entry .pre .1 .1)
 
 slice-aggregate-relink : tie.Need-slice-aggregate-relink
 slice-aggregate-relink c = search needs
@@ -63,28 +43,16 @@ slice-aggregate-relink-2 c = search needs
 
 relink-requires : tie.Need-relink-requires
 relink-requires c κs =
-    let at-search = c .before .before .before .before .before .before .before .before .before .before .before .before .before .before .before .before .before .before .before .before .before in
-    let at-count-links = at-search .before .before .before .before in
-    let entry = at-count-links .before .before .before .before .before .before in
+    let at-settle = c .before .before .before .before .before .before .before .before in
+    let at-search = at-settle .before .before .before .before .before .before .before in
+    let at-count = at-search .before .before .before .before in
+    let entry = at-count .before .before .before .before .before .before in
     let p = entry .pre .0 in
-    let counted = at-count-links .count-links .ensures (p .2 ∷ p .3) (p .4 .list) in
+    let counted = at-count .count-links .ensures (p .2 ∷ p .3) (p .4 .list) in
     let cut = at-search .search .ensures (p .2 ∷ p .3) (p .4 .list) in
-    let at-settle = c .before .before .before .before .before .before in
-    let settled = at-settle .settle .ensures _ _ (can-settle _ _ (p .0) _ (p .1) (p .2) (p .3) _ (p .4) _ counted _ _ cut) in
-    (p .0, p .1, _, _, can-relink _ _ (p .0) _ (p .1) (p .2) (p .3) _ (p .4) _ counted _ _ cut _ _ settled)
-
-renew-requires-2 : tie.Need-renew-requires-2
-renew-requires-2 c κs =
-    let at-search = c .before .before .before .before .before .before .before .before .before .before .before .before .before .before .before .before .before .before .before .before .before .before .before .before .before .before .before .before .before in
-    let at-count-links = at-search .before .before .before .before in
-    let entry = at-count-links .before .before .before .before .before .before in
-    let p = entry .pre .0 in
-    let counted = at-count-links .count-links .ensures (p .2 ∷ p .3) (p .4 .list) in
-    let cut = at-search .search .ensures (p .2 ∷ p .3) (p .4 .list) in
-    let at-settle = c .before .before .before .before .before .before .before .before .before .before .before .before .before .before in
-    let settled = at-settle .settle .ensures _ _ (can-settle _ _ (p .0) _ (p .1) (p .2) (p .3) _ (p .4) _ counted _ _ cut) in
-    let relinked = c .before .before .before .before .before .before .before .relink .ensures (p .0) (p .1) _ _ (can-relink _ _ (p .0) _ (p .1) (p .2) (p .3) _ (p .4) _ counted _ _ cut _ _ settled) in
-    ends-renewable _ _ (p .0) _ (p .1) (p .2) (p .3) _ (p .4) _ counted _ _ cut _ _ settled _ _ relinked _ (entry .pre .1 .1 .ends .nine)
+    let ready = can-settle _ _ (p .0) _ (p .1) (p .2) (p .3) _ (p .4) _ counted _ _ cut in
+    let settled = at-settle .settle .ensures _ _ _ ready (entry .pre .1 .1) in
+    ((p .0, p .1, _, _, can-relink _ _ (p .0) _ (p .1) (p .2) (p .3) _ (p .4) _ counted _ _ cut _ _ settled), (entry .pre .1 .1 .head .nine, entry .pre .1 .1 .ends .nine))
 
 same-length : tie.Need-same-length
 same-length c = search needs
@@ -100,21 +68,24 @@ same-length-4 c = search needs
 
 returns : tie.Need-returns
 returns c =
-    let at-search = c .before .before .before .before .before .before .before .before .before .before .before .before .before .before .before .before .before .before .before .before .before .before .before .before .before .before .before .before .before .before .before .before in
-    let at-count-links = at-search .before .before .before .before in
-    let entry = at-count-links .before .before .before .before .before .before in
+    let at-relink = c .before .before .before .before .before .before .before .before in
+    let at-settle = at-relink .before .before .before .before .before .before .before .before .before in
+    let at-search = at-settle .before .before .before .before .before .before .before in
+    let at-count = at-search .before .before .before .before in
+    let entry = at-count .before .before .before .before .before .before in
     let p = entry .pre .0 in
-    let counted = at-count-links .count-links .ensures (p .2 ∷ p .3) (p .4 .list) in
+    let counted = at-count .count-links .ensures (p .2 ∷ p .3) (p .4 .list) in
     let cut = at-search .search .ensures (p .2 ∷ p .3) (p .4 .list) in
-    let at-settle = c .before .before .before .before .before .before .before .before .before .before .before .before .before .before .before .before .before in
-    let at-relink = c .before .before .before .before .before .before .before .before .before .before in
-    let settled = at-settle .settle .ensures _ _ (can-settle _ _ (p .0) _ (p .1) (p .2) (p .3) _ (p .4) _ counted _ _ cut) in (
+    let ready = can-settle _ _ (p .0) _ (p .1) (p .2) (p .3) _ (p .4) _ counted _ _ cut in
+    let settled = at-settle .settle .ensures _ _ _ ready (entry .pre .1 .1) in
+    let relinked = at-relink .relink .ensures .0 (p .0) (p .1) _ _ (can-relink _ _ (p .0) _ (p .1) (p .2) (p .3) _ (p .4) _ counted _ _ cut _ _ settled) in
+    let renewed = at-relink .relink .ensures .1 in (
       λ hc cs r rs w.
-          let counted' = at-count-links .count-links .ensures (r ∷ rs) (w .list) in
+          let counted' = at-count .count-links .ensures (r ∷ rs) (w .list) in
           let cut' = at-search .search .ensures (r ∷ rs) (w .list) in
-          let settled' = at-settle .settle .ensures _ _ (can-settle _ _ hc _ cs r rs _ w _ counted' _ _ cut') in
-          moved _ _ hc _ cs r rs _ w _ counted' _ _ cut' _ _ settled' _ _ (at-relink .relink .ensures hc cs _ _ (can-relink _ _ hc _ cs r rs _ w _ counted' _ _ cut' _ _ settled')),
-      moved-cached _ _ (p .0) _ (p .1) (p .2) (p .3) _ (p .4) _ counted _ _ cut _ _ settled _ _ (at-relink .relink .ensures (p .0) (p .1) _ _ (can-relink _ _ (p .0) _ (p .1) (p .2) (p .3) _ (p .4) _ counted _ _ cut _ _ settled)) _ _ _ _ (entry .pre .1 .1) (c .before .before .before .before .before .before .before .before .before .before .before .before .before .before .before .before .before .before .before .before .before .before .before .renew .ensures) (c .before .before .renew2 .ensures),
+          let settled' = at-settle .settle .ensures _ _ _ (can-settle _ _ hc _ cs r rs _ w _ counted' _ _ cut') (entry .pre .1 .1) in
+          moved _ _ hc _ cs r rs _ w _ counted' _ _ cut' _ _ settled' _ _ (at-relink .relink .ensures .0 hc cs _ _ (can-relink _ _ hc _ cs r rs _ w _ counted' _ _ cut' _ _ settled')),
+      moved-cached _ _ (p .0) _ (p .1) (p .2) (p .3) _ (p .4) _ counted _ _ cut _ _ settled _ _ relinked _ _ _ _ (entry .pre .1 .1) (renewed .0) (renewed .1),
     )
 
 pub cut-run-spec : {M : Type 1} → statement M
@@ -125,15 +96,11 @@ cut-run-spec =
     slice-aggregate-search
     slice-aggregate-search-2
     search-requires
-    sums-above-requires
-    slice-aggregate-renew
-    renew-requires
     slice-aggregate-settle
     settle-requires
     slice-aggregate-relink
     slice-aggregate-relink-2
     relink-requires
-    renew-requires-2
     same-length
     same-length-2
     same-length-3

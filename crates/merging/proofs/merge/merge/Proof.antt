@@ -5,6 +5,22 @@ use Rattle.merging.proofs.MergeLaws.{merge-ready, older-enterable, newe
 use Rattle.merging.proofs.merge.merge.Statement.{statement}
 use Rattle.merging.proofs.merge.merge.Tie as tie
 
+-- The states of a merge: record 0 is cleared, the sums of both heads are entered, and the runs are moved.
+module _ (c : tie.After-clear-head) where
+  abbrev entry : tie.Start
+  entry = c .before .before .before
+
+module _ (c : tie.After-enter2) where
+  abbrev at-enter : tie.After-enter
+  at-enter = c .before .before .before .before
+
+  abbrev at-clear : tie.After-clear-head
+  at-clear = at-enter .before .before .before .before .before
+
+module _ (c : tie.After-merge-runs) where
+  abbrev cleared : tie.After-clear-head
+  cleared = at-clear (c .before .before .before .before .before .before .before)
+
 clear-head-requires : tie.Need-clear-head-requires
 clear-head-requires c κs = search needs
 
@@ -12,13 +28,18 @@ slice-aggregate-enter : tie.Need-slice-aggregate-enter
 slice-aggregate-enter c = search needs
 
 enter-requires : tie.Need-enter-requires
-enter-requires c κs = older-enterable _ _ _ _ _ (c .before .before .before .before .clear-head .ensures) (c .before .before .before .before .before .before .before .pre)
+enter-requires c κs =
+    let clear = c .before .before .before .before in
+    older-enterable _ _ _ _ (clear .clear-head .ensures) (entry clear .pre)
 
 slice-aggregate-enter-2 : tie.Need-slice-aggregate-enter-2
 slice-aggregate-enter-2 c = search needs
 
 enter-requires-2 : tie.Need-enter-requires-2
-enter-requires-2 c κs = newer-enterable _ _ _ _ _ (c .before .before .before .before .before .before .before .before .clear-head .ensures) (c .before .before .before .before .before .before .before .before .before .before .before .pre)
+enter-requires-2 c κs =
+    let enters = c .before .before .before in
+    let clear = enters .before .before .before .before .before in
+    newer-enterable _ _ _ _ (clear .clear-head .ensures) (entry clear .pre)
 
 slice-aggregate-merge-runs : tie.Need-slice-aggregate-merge-runs
 slice-aggregate-merge-runs c = search needs
@@ -34,21 +55,26 @@ slice-aggregate-merge-runs-4 c = search needs
 
 merge-runs-requires : tie.Need-merge-runs-requires
 merge-runs-requires c κs =
-    let at-clear-head = c .before .before .before .before .before .before .before .before .before .before .before .before .before .before .before in
-    let entry = c .before .before .before .before .before .before .before .before .before .before .before .before .before .before .before .before .before .before in
-    (merge-ready _ _ _ _ _ (at-clear-head .clear-head .ensures) (entry .pre), merge-kept _ _ _ _ _ (at-clear-head .clear-head .ensures) _ _ (c .before .before .before .before .before .before .before .before .before .before .enter .ensures) (c .before .before .before .before .before .before .enter2 .ensures))
+    let enters = c .before .before .before .before .before .before in
+    let clear = at-clear enters in
+    (merge-ready _ _ _ _ (clear .clear-head .ensures) (entry clear .pre), merge-kept _ _ _ _ (clear .clear-head .ensures) _ _ (at-enter enters .enter .ensures) (enters .enter2 .ensures))
 
 slice-aggregate-close : tie.Need-slice-aggregate-close
 slice-aggregate-close c = search needs
 
 close-requires : tie.Need-close-requires
-close-requires c κs = merge-closes _ _ _ _ _ (c .before .before .before .before .before .before .before .before .before .before .before .before .before .before .before .before .before .before .before .before .before .before .before .before .clear-head .ensures) _ _ (c .before .before .before .before .before .before .before .before .merge-runs .ensures .0) (c .before .before .before .before .before .before .before .before .before .before .before .before .before .before .before .before .before .before .before .before .before .before .before .before .before .before .before .pre)
+close-requires c κs =
+    let runs = c .before .before .before .before .before .before .before .before in
+    merge-closes _ _ _ _ (cleared runs .clear-head .ensures) _ _ (runs .merge-runs .ensures .0) (entry (cleared runs) .pre)
 
 same-length : tie.Need-same-length
 same-length c = search needs
 
 returns : tie.Need-returns
-returns c = merge-done _ _ _ _ _ (c .before .before .before .before .before .before .before .before .before .before .before .before .before .before .before .before .before .before .before .before .before .before .before .before .before .before .before .clear-head .ensures) _ _ (c .before .before .before .before .before .before .before .before .before .before .before .merge-runs .ensures .0) _ (c .before .before .close .ensures)
+returns c =
+    let closes = c .before .before in
+    let runs = closes .before .before .before .before .before .before .before .before .before in
+    merge-done _ _ _ _ (cleared runs .clear-head .ensures) _ _ (runs .merge-runs .ensures .0) _ (closes .close .ensures)
 
 pub merge-spec : {M : Type 1} → statement M
 merge-spec =

@@ -3,7 +3,7 @@
 use mathlib.Core.Path.{_∙_}
 use native.Mathlib.Omega.{arith}
 use borrow.Author.Needs.{needs}
-use Rattle.merging.proofs.Raising.{Raising, countTo, raising-start, raising-has, raising-turn, raising-less, raising-done}
+use Rattle.merging.proofs.Raising.{Raising, countTo, raising-start, raising-has, both-raised, raising-turn, raising-less, raising-done}
 use Rattle.merging.proofs.raise_chain.raise_chain.Statement.{statement}
 use Rattle.merging.proofs.raise_chain.raise_chain.Tie as tie
 
@@ -49,7 +49,9 @@ loop-less c =
     let at-loop-test = at-raise .before .before in
     let at-loop = at-loop-test .before in
     let entry = at-loop .before .before in
-    raising-less _ _ _ _ _ _ _ (entry .pre .0) (at-loop .loop .inv) (at-loop-test .loop-test .taken) _ _ _ (raising-has _ _ _ _ _ _ _ (entry .pre .0) (at-loop .loop .inv) (at-loop-test .loop-test .taken) (entry .pre .1 .0) (entry .pre .1 .1)) (at-raise .raise .ensures) (at-raise2 .raise2 .ensures) (c .wide .ensures ∙ c .before .get .ensures) (entry .pre .1 .0) (entry .pre .1 .1)
+    let has = raising-has _ _ _ _ _ _ _ (entry .pre .0) (at-loop .loop .inv) (at-loop-test .loop-test .taken) (entry .pre .1 .0) (entry .pre .1 .1) in
+    let raised = both-raised _ _ _ _ _ _ _ (entry .pre .0) (at-loop .loop .inv) (at-loop-test .loop-test .taken) _ _ has (at-raise .raise .ensures) (at-raise2 .raise2 .ensures) in
+    raising-less _ _ _ _ _ _ _ (entry .pre .0) (at-loop .loop .inv) (at-loop-test .loop-test .taken) _ _ raised (c .wide .ensures ∙ c .before .get .ensures) (entry .pre .1 .0) (entry .pre .1 .1)
 
 loop-again : tie.Need-loop-again Inv-loop μ-loop
 loop-again c =
@@ -58,7 +60,9 @@ loop-again c =
     let at-loop-test = at-raise .before .before in
     let at-loop = at-loop-test .before in
     let entry = at-loop .before .before in
-    raising-turn _ _ _ _ _ _ _ (entry .pre .0) (at-loop .loop .inv) (at-loop-test .loop-test .taken) _ _ _ (raising-has _ _ _ _ _ _ _ (entry .pre .0) (at-loop .loop .inv) (at-loop-test .loop-test .taken) (entry .pre .1 .0) (entry .pre .1 .1)) (at-raise .raise .ensures) (at-raise2 .raise2 .ensures) (c .wide .ensures ∙ c .before .get .ensures)
+    let has = raising-has _ _ _ _ _ _ _ (entry .pre .0) (at-loop .loop .inv) (at-loop-test .loop-test .taken) (entry .pre .1 .0) (entry .pre .1 .1) in
+    let raised = both-raised _ _ _ _ _ _ _ (entry .pre .0) (at-loop .loop .inv) (at-loop-test .loop-test .taken) _ _ has (at-raise .raise .ensures) (at-raise2 .raise2 .ensures) in
+    raising-turn _ _ _ _ _ _ _ (entry .pre .0) (at-loop .loop .inv) (at-loop-test .loop-test .taken) _ _ raised (c .wide .ensures ∙ c .before .get .ensures)
 
 same-length : tie.Need-same-length Inv-loop μ-loop
 same-length c = c .before .loop .inv .length-kept

@@ -26,7 +26,9 @@ wide-requires : tie.Need-wide-requires Inv-loop μ-loop
 wide-requires c κs = search needs
 
 may-pass-requires : tie.Need-may-pass-requires Inv-loop μ-loop
-may-pass-requires c κs = link-reach _ _ _ (c .before .before .before .before .before .pre .0 .1) _ _ _ (c .before .before .loop-test .taken) (c .before .get .ensures) (c .wide .ensures)
+may-pass-requires c κs =
+    let pre = c .before .before .before .before .before .pre .0 in
+    (link-reach _ _ _ (pre .0 .1) _ _ _ (c .before .before .loop-test .taken) (c .before .get .ensures) (c .wide .ensures), pre .1)
 
 add-n : tie.Need-add-n Inv-loop μ-loop
 add-n c = search needs

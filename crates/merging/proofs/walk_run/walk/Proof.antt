@@ -22,10 +22,12 @@ wide-requires : tie.Need-wide-requires Inv-loop μ-loop
 wide-requires c κs = search needs
 
 may-pass-requires : tie.Need-may-pass-requires Inv-loop μ-loop
-may-pass-requires c κs = link-reach _ _ _ (c .before .before .before .before .before .pre .1) 0 _ _ (search needs) (c .before .before .get .ensures) (c .before .wide .ensures)
+may-pass-requires c κs =
+    let entry = c .before .before .before .before .before in
+    (link-reach _ _ _ (entry .pre .0 .1) 0 _ _ (search needs) (c .before .before .get .ensures) (c .before .wide .ensures), entry .pre .1)
 
 loop-holds : tie.Need-loop-holds Inv-loop μ-loop
-loop-holds c = (passing-start _ _ _ _ _ _ (c .before .before .before .before .before .before .pre) (c .before .before .before .get .ensures) (c .before .before .wide .ensures), c .may-pass .ensures)
+loop-holds c = (passing-start _ _ _ _ _ _ (c .before .before .before .before .before .before .pre .0) (c .before .before .before .get .ensures) (c .before .before .wide .ensures), c .may-pass .ensures)
 
 raise-requires : tie.Need-raise-requires Inv-loop μ-loop
 raise-requires c κs = (passing-has _ _ _ _ _ _ _ (c .before .before .loop .inv .0) (sym (c .before .loop-test .taken) ∙ c .before .before .loop .inv .1), search needs)
@@ -46,7 +48,7 @@ may-pass-requires-2 c κs =
     let at-raise = c .before .before .before .before .before .before in
     let at-loop-test = at-raise .before .before in
     let at-loop = at-loop-test .before in
-    passing-reach _ _ _ _ _ _ _ (passing-more _ _ _ _ _ _ _ (at-loop .loop .inv .0) (sym (at-loop-test .loop-test .taken) ∙ at-loop .loop .inv .1) _ _ _ (at-raise .raise .ensures) (c .before .before .get2 .ensures) (c .before .wide2 .ensures))
+    (passing-reach _ _ _ _ _ _ _ (passing-more _ _ _ _ _ _ _ (at-loop .loop .inv .0) (sym (at-loop-test .loop-test .taken) ∙ at-loop .loop .inv .1) _ _ _ (at-raise .raise .ensures) (c .before .before .get2 .ensures) (c .before .wide2 .ensures)), search needs)
 
 loop-less : tie.Need-loop-less Inv-loop μ-loop
 loop-less c =

@@ -1,10 +1,10 @@
--- `merging::cache::sums_above` meets its contract: the difference of two sums from link n up.
--- The words are those sums, modulo 4,294,967,296.
+-- `merging::lift::lift` meets its contract: what it gives makes up for the other sums.
+-- The two sums are words of the slices, and their difference and q are added modulo 2 ^ 32.
 use mathlib.Core.Path.{refl}
+use Rattle.merging.proofs.CacheLaws.{makes-up}
 use borrow.Author.Needs.{needs}
-use Rattle.merging.proofs.CacheLaws.{above-is}
-use Rattle.merging.proofs.cache.sums_above.Statement.{statement}
-use Rattle.merging.proofs.cache.sums_above.Tie as tie
+use Rattle.merging.proofs.lift.lift.Statement.{statement}
+use Rattle.merging.proofs.lift.lift.Tie as tie
 
 mul-wrapping-sub-u32 : tie.Need-mul-wrapping-sub-u32
 mul-wrapping-sub-u32 c = search needs
@@ -21,11 +21,14 @@ shared-slice-read-wrapping-sub-u32-2 c = search needs
 wrapping-sub-u32-requires : tie.Need-wrapping-sub-u32-requires
 wrapping-sub-u32-requires c κs = search needs
 
-returns : tie.Need-returns
-returns c = above-is _ _ _ _ _ _ (c .before .before .before .before .before .pre) refl refl (c .wrapping-sub-u32 .ensures)
+wrapping-add-u32-requires : tie.Need-wrapping-add-u32-requires
+wrapping-add-u32-requires c κs = search needs
 
-pub sums-above-spec : {M : Type 1} → statement M
-sums-above-spec =
+returns : tie.Need-returns
+returns c = makes-up _ _ _ _ _ _ _ _ (c .before .before .before .before .before .before .pre) refl refl (c .before .wrapping-sub-u32 .ensures) (c .wrapping-add-u32 .ensures)
+
+pub lift-spec : {M : Type 1} → statement M
+lift-spec =
     tie.close
     (tie.spec
     mul-wrapping-sub-u32
@@ -33,4 +36,5 @@ sums-above-spec =
     mul-wrapping-sub-u32-2
     shared-slice-read-wrapping-sub-u32-2
     wrapping-sub-u32-requires
+    wrapping-add-u32-requires
     returns)

@@ -1,0 +1,57 @@
+// A run of one record: it goes to the result by its own links.
+ghost use mathlib.Core.Path.{_≡_};
+ghost use mathlib.Core.Bool.{false};
+ghost use mathlib.Core.List.{List, _∷_};
+ghost use Prim.Native.Nat.{ℕ, _<_};
+ghost use lib.ListN.{length};
+ghost use Rattle.arena.specs.Arena.{adjust, forward};
+ghost use Rattle.arena.specs.Chain.{Has};
+ghost use Rattle.merging.specs.Cut.{front, passes};
+ghost use Rattle.merging.specs.Advance.{behind, Movable, Moved};
+ghost use Rattle.merging.specs.Cached.{Cached};
+ghost use Rattle.merging.specs.Settled.{cutSums};
+use crate::lift::lift;
+use crate::relink::relink;
+use arena::words::get;
+use arena::words::raise;
+use arena::words::wide;
+
+// The adjusts of a record.
+fn adjusts_of(arena: &[u32], r: usize) -> [u32; 8]
+    requires { ⌜ Has (now arena) r ⌝ }
+    ensures { λ found. ⌜ (8 ≡ length found) × ((k : ℕ) → k < 8 → cutSums found k ≡ adjust (now (arena .entry)) r k) ⌝ }
+{
+    let mut found = [0u32; 8];
+    let mut k = 0;
+    while k < 8 {
+        found[k] = get(arena, r, 11 + k);
+        k += 1;
+    }
+    found
+}
+
+// Moves the first record of a list, after which none passes, behind an open list. It is its own cut: nothing is searched
+// for, and its p alone is raised.
+pub fn move_one(
+    arena: &mut [u32],
+    head: usize,
+    key: u32,
+    q: u32,
+    ends: &mut [usize],
+    sums: &mut [u32],
+    lasts: &mut [u32],
+)
+    requires { ⌜ ((hc : ℕ) × (cs : List ℕ) × (r : ℕ) × (rs : List ℕ) × Movable (now arena) head hc key cs r rs (now ends)) ⌝ }
+    requires { ⌜ passes (now arena) (forward (now arena) (forward (now arena) head 0) 0) key ≡ false ⌝ }
+    requires { ⌜ Cached (now arena) head (now ends) (now sums) (now lasts) ⌝ }
+    ensures { λ _. ⌜ ((hc : ℕ) (cs : List ℕ) (r : ℕ) (rs : List ℕ) → Movable (now (arena .entry)) head hc key cs r rs (now (ends .entry)) → Moved (now (arena .entry)) (now (arena .exit)) head hc q cs (front (now (arena .entry)) key (r ∷ rs)) (behind (now (arena .entry)) key (r ∷ rs)) (now (ends .exit))) ⌝ }
+    ensures { λ _. ⌜ Cached (now (arena .exit)) head (now (ends .exit)) (now (sums .exit)) (now (lasts .exit)) ⌝ }
+{
+    let r = wide(get(arena, head, 3));
+    let level = wide(get(arena, r, 0));
+    let v = lift(q, sums, lasts, level);
+    raise(arena, r, 2, v);
+    let cut = [r; 8];
+    let found = adjusts_of(arena, r);
+    relink(arena, head, &cut, &found, level, ends, sums, lasts);
+}
