@@ -1,5 +1,6 @@
-pub mod LinkWords
-pub mod OneRecord
+pub mod Decisions
+pub mod LinkLaws
+pub mod ItemTests
 pub mod Following
 pub mod Answering
 pub mod ReadingWalk

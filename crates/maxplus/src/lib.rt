@@ -1,6 +1,6 @@
 // Lazy lists in a lent arena.
+mod links;
 mod read_list;
-mod words;
 
 pub use read_list::read;
 

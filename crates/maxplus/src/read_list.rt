@@ -1,17 +1,21 @@
 // The reading call: one pass over the list that an arena holds.
 ghost use mathlib.Core.Path.{_≡_};
 ghost use mathlib.Core.Bool.{cond};
-ghost use Prim.Native.Nat.{_≤_};
+ghost use Prim.Native.Nat.{ℕ, _≤_};
 ghost use lib.ListN.{length};
-ghost use Rattle.arena.specs.Arena.{word, level};
+ghost use Rattle.arena.specs.Arena.{level, mWord};
+ghost use Rattle.arena.specs.Chain.{pUnder};
+ghost use Rattle.arena.specs.Turning.{Summable, Suffixes};
 ghost use Rattle.maxplus.specs.Read.{readItem, reading};
-ghost use Rattle.maxplus.specs.Pass.{refusedReading, readAt, Decides, Levelled, Fits, risen, Passed, Follows};
+ghost use Rattle.maxplus.specs.Pass.{refusedReading, readAt, Decides, Stands, Follows};
 use crate::Reading;
-use crate::words::are_all;
-use crate::words::links_of;
-use crate::words::put_links;
-use crate::words::sum_from;
-use crate::words::word;
+use crate::links::due_from_head;
+use crate::links::none_due;
+use crate::links::pass_links;
+use arena::sums::enter;
+use arena::sums::true_p;
+use arena::words::get;
+use arena::words::wide;
 
 // m and true p of a record on the list.
 pub struct Item {
@@ -25,46 +29,37 @@ fn refused(number: u32) -> Reading
     Reading { number, m: 0, p: 0 }
 }
 
-// Whether the list may go on with record r, where each link that the record has must be due.
-fn is_next(arena: &[u32], due: &[u32], r: u32) -> bool
-    requires { ⌜ (16_384 ≤ length (now arena)) × (8 ≤ length (now due)) ⌝ }
-    ensures { λ b. ⌜ Decides b (Fits (now (arena .entry)) (now (due .entry)) r) ⌝ }
+// Whether record r may stand on a list after `count` others, by their number, its own and its level.
+fn may_stand(arena: &[u32], count: u32, r: usize) -> bool
+    requires { ⌜ 16_384 ≤ length (now arena) ⌝ }
+    ensures { λ b. ⌜ Decides b (Stands (now (arena .entry)) count r) ⌝ }
 {
+    if 512 <= count {
+        return false;
+    }
     if 512 < r {
         return false;
     }
-    let links = links_of(arena, r);
-    if links < 1 {
+    let level = wide(get(arena, r, 0));
+    if level < 1 {
         return false;
     }
-    if 8 < links {
+    if 8 < level {
         return false;
     }
-    are_all(due, links, r)
+    true
 }
 
-// The item in a record: its true p has the sums of the links above its level.
-fn item_at(arena: &[u32], sums: &[u32], r: u32) -> Item
-    requires { ⌜ Levelled (now arena) r × (8 ≤ length (now sums)) ⌝ }
-    ensures { λ z. ⌜ z .m ≡ word (now (arena .entry)) r 1 ⌝ }
-    ensures { λ z. ⌜ z .p ≡ risen (now (arena .entry)) (now (sums .entry)) r ⌝ }
+// The item in the record that the sums lead to.
+fn item_at(arena: &[u32], r: usize, sums: &[u32]) -> Item
+    requires { ⌜ Summable (now arena) r (now sums) ⌝ }
+    ensures { λ z. ⌜ z .m ≡ mWord (now (arena .entry)) r ⌝ }
+    ensures { λ z. ⌜ ((f : ℕ → ℕ) → Suffixes f (now (sums .entry)) → z .p ≡ pUnder (now (arena .entry)) f r) ⌝ }
 {
-    let links = links_of(arena, r);
-    let above = sum_from(sums, links);
     Item {
-        m: word(arena, r, 1),
-        p: std::num::wrapping_add_u32(word(arena, r, 2), above),
+        m: get(arena, r, 1),
+        p: true_p(arena, r, sums),
     }
-}
-
-// Record r is passed: it makes its own links due, and its adjusts count from here on.
-fn pass(arena: &[u32], r: u32, due: &mut [u32], sums: &mut [u32])
-    requires { ⌜ Levelled (now arena) r × (8 ≤ length (now due)) × (8 ≤ length (now sums)) ⌝ }
-    ensures { λ _. ⌜ Passed (now (arena .entry)) r 3 (now (due .entry)) (now (due .exit)) ⌝ }
-    ensures { λ _. ⌜ Passed (now (arena .entry)) r 11 (now (sums .entry)) (now (sums .exit)) ⌝ }
-{
-    put_links(arena, r, 3, due);
-    put_links(arena, r, 11, sums);
 }
 
 // Whether an item may follow the one before it, where there is one.
@@ -80,11 +75,23 @@ fn may_follow(count: u32, before: Item, item: Item) -> bool
     before.p < item.p
 }
 
-// Remembers an item if it is the one that is asked for.
-fn chosen(wanted: bool, item: Item, other: Item) -> Item
-    ensures { λ r. ⌜ r ≡ cond wanted item other ⌝ }
+// The word if it is wanted, and else the other.
+fn either(wanted: bool, word: u32, other: u32) -> u32
+    ensures { λ r. ⌜ r ≡ cond wanted word other ⌝ }
 {
-    if wanted { item } else { other }
+    if wanted { word } else { other }
+}
+
+// Remembers an item if it is the one that is asked for. It chooses word by word: a choice between whole items is compiled
+// to one that packs m and p into one word for every record.
+fn chosen(wanted: bool, item: Item, other: Item) -> Item
+    ensures { λ z. ⌜ z .m ≡ cond wanted (item .m) (other .m) ⌝ }
+    ensures { λ z. ⌜ z .p ≡ cond wanted (item .p) (other .p) ⌝ }
+{
+    Item {
+        m: either(wanted, item.m, other.m),
+        p: either(wanted, item.p, other.p),
+    }
 }
 
 // Check 21, and then the item that was remembered.
@@ -104,36 +111,37 @@ fn item_or_place(count: u32, place: u32, found: Item) -> Reading
     }
 }
 
-// The walk from the head. `due` has for each link the record that must come next with it, and `sums` the adjust of
-// the last record with it.
+// The walk from the head: `next` is the record that it has come to, `due` those that the higher links must come to, and
+// `sums` the sums that lead there.
 fn read_from_head(arena: &[u32], place: u32) -> Reading
     requires { ⌜ (16_384 ≤ length (now arena)) × (level (now arena) 0 ≡ 8) ⌝ }
     ensures { λ r. ⌜ r ≡ reading (readItem (now (arena .entry)) place) ⌝ }
 {
     let mut due = [0u32; 8];
-    let mut sums = [0u32; 8];
-    pass(arena, 0, &mut due, &mut sums);
+    let mut sums = [0u32; 9];
+    due_from_head(arena, &mut due);
+    enter(arena, 0, &mut sums);
+    let mut next = wide(get(arena, 0, 3));
     let mut count: u32 = 0;
     let mut before = Item { m: 0, p: 0 };
     let mut found = Item { m: 0, p: 0 };
-    while due[0] != 0 {
-        let r = due[0];
-        if 512 <= count {
+    while next != 0 {
+        if !may_stand(arena, count, next) {
             return refused(checks::LAZY_LIST);
         }
-        if !is_next(arena, &due, r) {
-            return refused(checks::LAZY_LIST);
-        }
-        let item = item_at(arena, &sums, r);
+        let item = item_at(arena, next, &sums);
         if !may_follow(count, before, item) {
             return refused(checks::LAZY_LIST);
         }
-        pass(arena, r, &mut due, &mut sums);
+        if !pass_links(arena, next, &mut due, &mut sums) {
+            return refused(checks::LAZY_LIST);
+        }
         count += 1;
         found = chosen(count == place, item, found);
         before = item;
+        next = wide(get(arena, next, 3));
     }
-    if !are_all(&due, 8, 0) {
+    if !none_due(&due) {
         return refused(checks::LAZY_LIST);
     }
     item_or_place(count, place, found)
@@ -147,7 +155,7 @@ pub fn read(arena: &[u32], place: u32) -> Reading
     if arena.len() < 16_384 {
         return refused(checks::BUFFERS);
     }
-    if word(arena, 0, 0) != 8 {
+    if get(arena, 0, 0) != 8 {
         return refused(checks::LAZY_LIST);
     }
     read_from_head(arena, place)

@@ -1,7 +1,7 @@
 -- `maxplus::read_list::item_or_place` meets its contract.
--- For each way out a law of `OneRecord` takes the tests of the place that lead to it.
+-- For each way out a law of `ItemTests` takes the tests of the place that lead to it.
 use borrow.Author.Needs.{needs}
-use Rattle.maxplus.proofs.OneRecord.{place-low, place-high, place-in}
+use Rattle.maxplus.proofs.ItemTests.{place-low, place-high, place-in}
 use Rattle.maxplus.proofs.read_list.item_or_place.Statement.{statement}
 use Rattle.maxplus.proofs.read_list.item_or_place.Tie as tie
 

@@ -1,7 +1,7 @@
 -- `maxplus::read_list::may_follow` meets its contract.
 -- Each way out decides it: there is no item before, m does not fall, or m falls and p is compared.
 use borrow.Author.Needs.{needs}
-use Rattle.maxplus.proofs.OneRecord.{follow-not, follow-if}
+use Rattle.maxplus.proofs.ItemTests.{follow-not, follow-if}
 use Rattle.maxplus.proofs.read_list.may_follow.Statement.{statement}
 use Rattle.maxplus.proofs.read_list.may_follow.Tie as tie
 

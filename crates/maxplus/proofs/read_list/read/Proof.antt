@@ -11,8 +11,8 @@ refused-requires c κs = search needs
 returns : tie.Need-returns
 returns c = search (needs, short-arena)
 
-word-requires : tie.Need-word-requires
-word-requires c κs = search needs
+get-requires : tie.Need-get-requires
+get-requires c κs = search needs
 
 refused-requires-2 : tie.Need-refused-requires-2
 refused-requires-2 c κs = search needs
@@ -32,7 +32,7 @@ read-spec =
     (tie.spec
     refused-requires
     returns
-    word-requires
+    get-requires
     refused-requires-2
     returns-2
     read-from-head-requires

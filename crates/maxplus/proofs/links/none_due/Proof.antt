@@ -1,19 +1,19 @@
--- `maxplus::words::are_all` meets its contract.
--- The loop keeps `Alike`, that the words before place k are x; the measure is what is left of the words.
+-- `maxplus::links::none_due` meets its contract.
+-- The loop keeps `Free`, that no word before place k names a record; the measure is what is left of the words.
 use borrow.Author.Needs.{needs}
 use Prim.Native.Nat.{_-_}
-use Rattle.maxplus.proofs.LinkWords.{Alike, alike-none, alike-more, alike-not, alike-all}
-use Rattle.maxplus.proofs.words.are_all.Statement.{statement}
-use Rattle.maxplus.proofs.words.are_all.Tie as tie
+use Rattle.maxplus.proofs.LinkLaws.{Free, free-start, free-more, free-not, free-all}
+use Rattle.maxplus.proofs.links.none_due.Statement.{statement}
+use Rattle.maxplus.proofs.links.none_due.Tie as tie
 
 abbrev Inv-loop : tie.InvT-loop
-Inv-loop row n x k₀ k = Alike row n x k
+Inv-loop due k₀ k = Free due k
 
 abbrev μ-loop : tie.MeasureT-loop
-μ-loop row n x k₀ k = n - k
+μ-loop due k₀ k = 8 - k
 
 loop-holds : tie.Need-loop-holds Inv-loop μ-loop
-loop-holds c = search (needs, alike-none)
+loop-holds c = search (needs, free-start)
 
 mul-if1 : tie.Need-mul-if1 Inv-loop μ-loop
 mul-if1 c = search needs
@@ -22,7 +22,7 @@ shared-slice-read-if1 : tie.Need-shared-slice-read-if1 Inv-loop μ-loop
 shared-slice-read-if1 c = search needs
 
 returns : tie.Need-returns Inv-loop μ-loop
-returns c = search (needs, alike-not)
+returns c = search (needs, free-not)
 
 add-k : tie.Need-add-k Inv-loop μ-loop
 add-k c = search needs
@@ -31,13 +31,13 @@ loop-less : tie.Need-loop-less Inv-loop μ-loop
 loop-less c = search needs
 
 loop-again : tie.Need-loop-again Inv-loop μ-loop
-loop-again c = search (needs, alike-more)
+loop-again c = search (needs, free-more)
 
 returns-2 : tie.Need-returns-2 Inv-loop μ-loop
-returns-2 c = search (needs, alike-all)
+returns-2 c = search (needs, free-all)
 
-pub are-all-spec : {M : Type 1} → statement M
-are-all-spec =
+pub none-due-spec : {M : Type 1} → statement M
+none-due-spec =
     tie.close
     (tie.spec
     Inv-loop
