@@ -17,7 +17,7 @@ use Rattle.stored.specs.Adding.{JoinRoom}
 use Rattle.stored.specs.declared.merge.Stretch.{Stretch}
 use Rattle.stored.proofs.Merging.{sums-low}
 use Rattle.stored.proofs.EntryLaws.{entry-added}
-use Rattle.stored.proofs.OwnLists.{own-merge, own-low, kind-low, cut-short}
+use Rattle.stored.proofs.OwnLists.{own-merge, own-low, own-filled, kind-low, cut-short}
 
 abbrev pub Joins : List ℕ → ℕ → ℕ → ℕ → Type 0
 Joins s e to kind = (cut : Tree → Tree → Tree) × (a : Tree) × (b : Tree) × JoinRoom s e to kind cut a b
@@ -80,10 +80,12 @@ module _ (s : List ℕ) (e to kind : ℕ) (cut : Tree → Tree → Tree) (a b : 
           (record {
             older = older .list;
             older-count = older .count-is;
+            older-some = let c = older .count-is in let filled = own-filled a (g .older-good) in omega arith;
             older-after = let w = older-between .0 in omega arith;
             older-before = let c = older .count-is in let w = older-between .1 in omega arith;
             newer = g .newer .list;
             newer-count = g .newer .count-is;
+            newer-some = let c = g .newer .count-is in let filled = own-filled b (g .newer-good) in omega arith;
             newer-after = let w = g .newer-between .0 in omega arith;
             newer-before = let c = g .newer .count-is in let w = g .newer-between .1 in omega arith;
             room = let c = older .count-is in let d = g .newer .count-is in let items = g .room .items in let long = g .room .long in omega arith;

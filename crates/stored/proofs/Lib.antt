@@ -4,6 +4,7 @@ pub mod MergeTurns
 pub mod Merging
 pub mod Places
 pub mod Walking
+pub mod HeldWords
 pub mod EntryLaws
 pub mod Packing
 pub mod OwnLists

@@ -3,7 +3,7 @@
 use mathlib.Core.Path.{_≡_, refl, sym, ap, _∙_}
 use mathlib.Core.Bool.{Bool, true, false}
 use mathlib.Core.List.{List, [], _∷_, _++_, append-assoc, append-nil, List·Memᴰ}
-use Prim.Native.Nat.{ℕ, suc, _+_, _*_, _-_, _/_, _%_, _≤_, _<_, max}
+use Prim.Native.Nat.{ℕ, suc, _+_, _*_, _-_, _/_, _%_, _^_, _≤_, _<_, max}
 use native.Mathlib.Omega.{arith}
 use lib.Dec.{ltb}
 use borrow.Author.Tests.{ltb-true, ltb-false}
@@ -15,7 +15,7 @@ use Rattle.stored.specs.Packed.{pack, HasList}
 use Rattle.stored.specs.Joining.{readAs, mergeOf, Joinable, Joined}
 use Rattle.stored.specs.declared.merge.Stretch.{Stretch}
 use Rattle.stored.proofs.Reading.{ItemWord}
-use Rattle.stored.proofs.StoredLists.{Low, facing-length, facing-low, m-is, p-is, place-in, has-one, has-kept, has-grown}
+use Rattle.stored.proofs.StoredLists.{Low, facing-length, facing-low, m-is, p-is, place-in, has-one, has-grown}
 use Rattle.stored.proofs.MergeTurns.{merge-nil, merge-turn}
 
 -- For a caller: the sums of the p fit where no item of either list has a larger p than a bound.
@@ -58,23 +58,11 @@ merging-start s a b to pre =
       rest = refl;
     }
 
--- What a place of either list is read as.
+-- The word of an item of either list.
 abbrev pub Reads : List ℕ → Stretch → ℕ → ℕ → Type 0
-Reads z a i x = ItemWord z (a .from) (a .count) (a .across) i x
+Reads s a i x = ItemWord s (a .from) (a .count) (a .across) i x
 
 module _ (s : List ℕ) (a b : Stretch) (to : ℕ) (z : List ℕ) (i j at : ℕ) (h : Merging s a b to z i j at) where
-  older-kept : HasList z (a .from) (h .older)
-  older-kept =
-      let count = h .joinable .older-count in
-      let before = h .joinable .older-before in
-      has-kept s z (a .from) to (h .older) (h .joinable .older) (omega arith) (h .length-kept) (h .before-kept)
-
-  newer-kept : HasList z (b .from) (h .newer)
-  newer-kept =
-      let count = h .joinable .newer-count in
-      let before = h .joinable .newer-before in
-      has-kept s z (b .from) to (h .newer) (h .joinable .newer) (omega arith) (h .length-kept) (h .before-kept)
-
   pub merging-room : i < a .count → j < b .count → at < length z
   merging-room i-left j-left =
       let room = h .joinable .room in
@@ -160,7 +148,7 @@ pub record Firsts (s : List ℕ) (a b : Stretch) (to : ℕ) (z : List ℕ) (i j 
   second-low : Low second
   sum-low : first .p + second .p < 65_536
 
-firsts : (s : List ℕ) (a b : Stretch) (to : ℕ) (z : List ℕ) (i j at : ℕ) (h : Merging s a b to z i j at) → i < a .count → j < b .count → (x y : ℕ) → Reads z a i x → Reads z b j y → Firsts s a b to z i j at h x y
+firsts : (s : List ℕ) (a b : Stretch) (to : ℕ) (z : List ℕ) (i j at : ℕ) (h : Merging s a b to z i j at) → i < a .count → j < b .count → (x y : ℕ) → Reads s a i x → Reads s b j y → Firsts s a b to z i j at h x y
 firsts s a b to z i j at h i-left j-left x y x-read y-read =
     let l = h .older in
     let k = h .newer in
@@ -168,8 +156,8 @@ firsts s a b to z i j at h i-left j-left x y x-read y-read =
     let k-count : b .count ≡ length k = h .joinable .newer-count in
     let l-low = facing-low (a .across) s (a .from) l (h .joinable .older) i (omega arith) in
     let k-low = facing-low (b .across) s (b .from) k (h .joinable .newer) j (omega arith) in
-    let x-is = x-read l (older-kept s a b to z i j at h) l-count in
-    let y-is = y-read k (newer-kept s a b to z i j at h) k-count in
+    let x-is = x-read l (h .joinable .older) l-count in
+    let y-is = y-read k (h .joinable .newer) k-count in
     record {
       first = getD (readAs a l) i (size 0 0);
       second = getD (readAs b k) j (size 0 0);
@@ -186,24 +174,22 @@ firsts s a b to z i j at h i-left j-left x y x-read y-read =
       sum-low = h .joinable .low i j (omega arith) (omega arith);
     }
 
--- The sum of the p fits.
-pub merging-low : (s : List ℕ) (a b : Stretch) (to : ℕ) (z : List ℕ) (i j at : ℕ) → Merging s a b to z i j at → i < a .count → j < b .count → (x y : ℕ) → Reads z a i x → Reads z b j y → x % 65_536 + y % 65_536 < 65_536
-merging-low s a b to z i j at h i-left j-left x y x-read y-read =
+-- The item that they make fits a word.
+pub merging-fits : (s : List ℕ) (a b : Stretch) (to : ℕ) (z : List ℕ) (i j at : ℕ) → Merging s a b to z i j at → i < a .count → j < b .count → (x y : ℕ) → Reads s a i x → Reads s b j y → (x + y % 65_536 < 2 ^ 32) × (y + x % 65_536 < 2 ^ 32)
+merging-fits s a b to z i j at h i-left j-left x y x-read y-read =
     let f = firsts s a b to z i j at h i-left j-left x y x-read y-read in
-    let low = f .sum-low in
+    let sum = f .sum-low in
+    let xm = f .x-m in
     let xp = f .x-p in
-    let yp = f .y-p in omega arith
+    let ym = f .y-m in
+    let yp = f .y-p in
+    let x-low = f .first-low in
+    let y-low = f .second-low in
+    (omega arith, omega arith)
 
 -- How many of the items of one list go.
 abbrev pub Goes : ℕ → ℕ → ℕ → Type 0
 Goes x y n = (y / 65_536 ≤ x / 65_536 → n ≡ 1) × (x / 65_536 < y / 65_536 → n ≡ 0)
-
-pub few-go : (x y n : ℕ) → Goes x y n → n ≤ 1
-few-go x y n f = step (ltb (x / 65_536) (y / 65_536)) refl
-  where
-    step : (t : Bool) → ltb (x / 65_536) (y / 65_536) ≡ t → n ≤ 1
-    step true e = let stays = f .1 (ltb-true (x / 65_536) (y / 65_536) e) in omega arith
-    step false e = let goes = f .0 (ltb-false (x / 65_536) (y / 65_536) e) in omega arith
 
 -- At most one of each, and one of either.
 pub one-goes : (x y m n : ℕ) → Goes x y m → Goes y x n → (m ≤ 1) × (n ≤ 1) × (1 ≤ m + n)
@@ -266,7 +252,7 @@ turned s a b to z i j at h i-left j-left x y f w m n w-is x-goes y-goes =
           ∙ h .rest;
     }
 
-pub merging-turn : (s : List ℕ) (a b : Stretch) (to : ℕ) (z : List ℕ) (i j at : ℕ) → Merging s a b to z i j at → i < a .count → j < b .count → (x y : ℕ) → Reads z a i x → Reads z b j y
+pub merging-turn : (s : List ℕ) (a b : Stretch) (to : ℕ) (z : List ℕ) (i j at : ℕ) → Merging s a b to z i j at → i < a .count → j < b .count → (x y : ℕ) → Reads s a i x → Reads s b j y
     → (w m n : ℕ) → w ≡ 65_536 * max (x / 65_536) (y / 65_536) + (x % 65_536 + y % 65_536) → Goes x y m → Goes y x n → Merging s a b to (set z at w) (i + m) (j + n) (at + 1)
 merging-turn s a b to z i j at h i-left j-left x y x-read y-read =
     turned s a b to z i j at h i-left j-left x y (firsts s a b to z i j at h i-left j-left x y x-read y-read)

@@ -1,4 +1,4 @@
--- A part's stored list, read the way of a join, is the shape list or that turned; the merge of two lists so read is the join's own, and it is short.
+-- A part's stored list, read the way of a join, is the shape list or that turned; the merge of two lists so read is the join's own, and it is short; none is empty.
 -- Stacked parts are stored by width and others by height, which is how the list of each is defined; turning keeps the number of items.
 use mathlib.Core.Path.{_≡_, refl, sym, ap₂, subst, _∙_}
 use mathlib.Core.List.{List, List·Memᴰ}
@@ -11,7 +11,7 @@ use Rattle.slicing.specs.Good.{Good}
 use Rattle.slicing.specs.Merge.{merge, swap, turn}
 use Rattle.slicing.specs.Shapes.{shapes}
 use Rattle.slicing.proofs.Counts.{counted, gauges-joined}
-use Rattle.slicing.proofs.ShapeLaws.{shapes-short}
+use Rattle.slicing.proofs.ShapeLaws.{shapes-filled, shapes-short}
 use Rattle.slicing.proofs.TurnLaws.{turn-turn, turn-length, turn-out}
 use Rattle.slicing.proofs.PartLists.{shapes-low}
 use Rattle.facefile.specs.Kinds.{kindOf, across}
@@ -59,7 +59,10 @@ kind-low (gauge s) = omega arith
 kind-low (beside a b) = omega arith
 kind-low (stacked a b) = omega arith
 
--- The items of a part are few.
+-- The items of a part are some, and few.
+pub own-filled : (t : Tree) → Good t → 1 ≤ length (ownShapes t)
+own-filled t good = omega (arith, own-length t, shapes-filled 0 t good)
+
 pub own-few : (t : Tree) → Good t → length (ownShapes t) ≤ 7 * gaugeCount t + 1
 own-few t good =
     let n = own-length t in

@@ -1,6 +1,6 @@
 -- The places of the items of a stretch, which go up, or down where the list is read turned: what `first_of`, `end_of`, `after` and `read_at` leave.
 -- Each answers by the same test whether the list is turned, so every law goes by the two answers of it.
-use mathlib.Core.Path.{_≡_, sym, ap, _∙_}
+use mathlib.Core.Path.{_≡_, refl, sym, ap, _∙_}
 use mathlib.Core.Bool.{Bool, true, false, cond, true≢false}
 use mathlib.Core.List.{List}
 use Prim.Native.Nat.{ℕ, _+_, _*_, _-_, _/_, _%_, _≤_, _<_}
@@ -28,12 +28,28 @@ at-along a k place e f = record { along = λ no. f; turned = λ yes. absurd (tru
 pub at-turned : (a : Stretch) (k place : ℕ) → a .across ≡ true → place + k + 1 ≡ a .from + a .count → AtItem a k place
 at-turned a k place e f = record { along = λ no. absurd (true≢false (sym e ∙ no)); turned = λ yes. f }
 
--- What `read_at` and `after` answer.
+-- What `read_at` answers, and a place that is n items after another.
 abbrev pub ReadAt : List ℕ → ℕ → Bool → ℕ → Type 0
 ReadAt z i t x = Either t x (getD z i 0) (65_536 * (getD z i 0 % 65_536) + getD z i 0 / 65_536)
 
 abbrev pub Moved : Bool → ℕ → ℕ → ℕ → Type 0
 Moved t i n r = Either t r (i + n) (i - n)
+
+pub not-moved : (t : Bool) (i : ℕ) → Moved t i 0 i
+not-moved t i = (λ e. omega arith, λ e. omega arith)
+
+-- The place after a place.
+abbrev pub one-on : Bool → ℕ → ℕ
+one-on t i = cond t (i - 1) (i + 1)
+
+pub on-moved : (t : Bool) (i : ℕ) → Moved t i 1 (one-on t i)
+on-moved true i = (λ e. absurd (true≢false e), λ e. refl)
+on-moved false i = (λ e. refl, λ e. absurd (true≢false (sym e)))
+
+-- A word that is kept is read as it was.
+pub read-kept : (z s : List ℕ) (i : ℕ) (t : Bool) (x : ℕ) → getD z i 0 ≡ getD s i 0 → ReadAt z i t x → ReadAt s i t x
+read-kept z s i t x kept read =
+    (λ e. read .0 e ∙ kept, λ e. read .1 e ∙ ap (λ (n : ℕ). 65_536 * (n % 65_536) + n / 65_536) kept)
 
 -- How many items are left from a place on.
 abbrev pub left : Stretch → ℕ → ℕ

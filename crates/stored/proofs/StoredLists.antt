@@ -1,9 +1,9 @@
--- A stored list, read either way, has as many items, and each is what the halves of its word say; it is the only list of its length at its place, stays where its words stay, and has one item more by a word written after its last.
+-- A stored list, read either way, has as many items, and each is what the halves of its word say; it is the only list of its length at its place, and has one item more by a word written after its last.
 -- Items below 65,536 both ways are got back from their words, and everything else goes item by item.
 use mathlib.Core.Path.{_≡_, refl, sym, ap, ap₂, _∙_}
 use mathlib.Core.Bool.{Bool, true, false}
 use mathlib.Core.List.{List, [], _∷_, _++_, List·Memᴰ, List·Memᴰ·head, List·Memᴰ·tail}
-use Prim.Native.Nat.{ℕ, zero, suc, _+_, _-_, _/_, _%_, _≤_, _<_}
+use Prim.Native.Nat.{ℕ, zero, suc, _+_, _-_, _/_, _%_, _<_}
 use native.Mathlib.Omega.{arith}
 use lib.Dec.{ltb}
 use borrow.Author.Tests.{ltb-true, ltb-false}
@@ -52,15 +52,6 @@ pub has-one : (s : List ℕ) (from : ℕ) (l k : List Item) → HasList s from l
 has-one s from l k h g e =
     ext-getD (size 0 0) l k e
     (λ i inside. pack-one (getD l i (size 0 0)) (getD k i (size 0 0)) (h .low i inside) (g .low i (omega arith)) (sym (h .at i inside) ∙ g .at i (omega arith)))
-
--- A list stays where the words before a place stay.
-pub has-kept : (s z : List ℕ) (from to : ℕ) (l : List Item) → HasList s from l → from + length l ≤ to → length z ≡ length s → ((i : ℕ) → i < to → getD z i 0 ≡ getD s i 0) → HasList z from l
-has-kept s z from to l has before same kept =
-    record {
-      inside = let inside = has .inside in omega arith;
-      at = λ i h. kept (from + i) (omega arith) ∙ has .at i h;
-      low = has .low;
-    }
 
 -- An item more, written after the last.
 module _ (s : List ℕ) (from to : ℕ) (l : List Item) (y : Item) (word : ℕ) (has : HasList s from l) (end : from + length l ≡ to) (inside : to < length s) (is-word : word ≡ pack y) (low : Low y) where

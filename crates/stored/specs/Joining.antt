@@ -27,14 +27,16 @@ pub record AtItem (a : Stretch) (k place : ℕ) : Type 0 where
   pub along : a .across ≡ false → place ≡ a .from + k
   pub turned : a .across ≡ true → place + k + 1 ≡ a .from + a .count
 
--- The stretches a and b of the scratch s are the lists l and k, both after the first word and before the place `to`; from it on there is room for both, and the sums of their p fit.
+-- The stretches a and b of the scratch s are the lists l and k, neither empty, both after the first word and before the place `to`; from it on there is room for both, and the sums of their p fit.
 pub record Joinable (s : List ℕ) (a b : Stretch) (to : ℕ) (l k : List Item) : Type 0 where
   pub older : HasList s (a .from) l
   pub older-count : a .count ≡ length l
+  pub older-some : 1 ≤ a .count
   pub older-after : 1 ≤ a .from
   pub older-before : a .from + a .count ≤ to
   pub newer : HasList s (b .from) k
   pub newer-count : b .count ≡ length k
+  pub newer-some : 1 ≤ b .count
   pub newer-after : 1 ≤ b .from
   pub newer-before : b .from + b .count ≤ to
   pub room : to + a .count + b .count ≤ length s

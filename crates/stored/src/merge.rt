@@ -2,7 +2,7 @@
 ghost use mathlib.Core.Path.{_≡_};
 ghost use mathlib.Core.List.{List};
 ghost use mathlib.Core.Bool.{true, false};
-ghost use Prim.Native.Nat.{_+_, _-_, _*_, _/_, _%_, _^_, _<_, _≤_, max};
+ghost use Prim.Native.Nat.{_+_, _-_, _*_, _/_, _%_, _^_, _<_, _≤_};
 ghost use lib.ListN.{length, getD};
 ghost use Rattle.slicing.specs.Item.{Item};
 ghost use Rattle.stored.specs.Joining.{Within, AtItem, Joinable, Joined};
@@ -15,28 +15,6 @@ pub struct Stretch {
     pub from: usize,
     pub count: usize,
     pub across: bool,
-}
-
-// The item that two items make: the larger m, and the sum of the p. It is the item of larger m with the other's p added.
-fn pair_of(x: u32, y: u32) -> u32
-    requires { ⌜ x % 65536 + y % 65536 < 65536 ⌝ }
-    ensures { λ r. ⌜ r ≡ 65536 * max (x / 65536) (y / 65536) + (x % 65536 + y % 65536) ⌝ }
-{
-    if m_of(x) < m_of(y) {
-        return y + p_of(x);
-    }
-    x + p_of(y)
-}
-
-// How many items of x's list go where x and y are the first: x goes unless y's m is larger.
-fn gone(x: u32, y: u32) -> usize
-    ensures goes { λ r. ⌜ (y / 65536 ≤ x / 65536 → r ≡ 1) ⌝ }
-    ensures stays { λ r. ⌜ (x / 65536 < y / 65536 → r ≡ 0) ⌝ }
-{
-    if m_of(x) < m_of(y) {
-        return 0;
-    }
-    1
 }
 
 // The word of an item at a place, its halves swapped where the list is read turned.
@@ -73,20 +51,21 @@ fn end_of(a: Stretch) -> usize
     a.from + a.count
 }
 
-// The place `by` items after a place: up, or down where the list is read turned.
-fn after(at: usize, by: usize, across: bool) -> usize
-    requires { ⌜ (by ≤ at) × (at + by < 2 ^ 64) ⌝ }
-    ensures along { λ r. ⌜ (across ≡ false → r ≡ at + by) ⌝ }
-    ensures turned { λ r. ⌜ (across ≡ true → r ≡ at - by) ⌝ }
+// The place after a place: up, or down where the list is read turned.
+fn after(at: usize, across: bool) -> usize
+    requires { ⌜ (1 ≤ at) × (at + 1 < 2 ^ 64) ⌝ }
+    ensures along { λ r. ⌜ (across ≡ false → r ≡ at + 1) ⌝ }
+    ensures turned { λ r. ⌜ (across ≡ true → r ≡ at - 1) ⌝ }
 {
     if across {
-        return at - by;
+        return at - 1;
     }
-    at + by
+    at + 1
 }
 
 // Merges the lists of two stretches, each read as its stretch says, and writes the merge's items from the place `to`
-// on. Answers how many it wrote.
+// on. Answers how many it wrote. The first item left of each list is held in x and y, and read once. An item of the
+// merge is the one of larger m with the other's p added.
 pub fn merge_lists(scratch: &mut [u32], a: Stretch, b: Stretch, to: usize) -> usize
     requires { ⌜ ((l : List Item) × (k : List Item) × Joinable (now scratch) a b to l k) ⌝ }
     ensures { λ r. ⌜ ((l k : List Item) → Joinable (now (scratch .entry)) a b to l k → Joined (now (scratch .entry)) a b to l k (now (scratch .exit)) r) ⌝ }
@@ -95,17 +74,35 @@ pub fn merge_lists(scratch: &mut [u32], a: Stretch, b: Stretch, to: usize) -> us
     let mut j = first_of(b);
     let end = end_of(a);
     let stop = end_of(b);
+    let mut x = read_at(scratch, i, a.across);
+    let mut y = read_at(scratch, j, b.across);
     let mut at = to;
-    while i != end {
-        if j == stop {
-            return at - to;
+    loop {
+        let m = m_of(x);
+        let n = m_of(y);
+        if m < n {
+            scratch[at] = y + p_of(x);
+            at += 1;
+            j = after(j, b.across);
+            if j == stop {
+                return at - to;
+            }
+            y = read_at(scratch, j, b.across);
+        } else {
+            scratch[at] = x + p_of(y);
+            at += 1;
+            i = after(i, a.across);
+            if i == end {
+                return at - to;
+            }
+            x = read_at(scratch, i, a.across);
+            if m == n {
+                j = after(j, b.across);
+                if j == stop {
+                    return at - to;
+                }
+                y = read_at(scratch, j, b.across);
+            }
         }
-        let x = read_at(scratch, i, a.across);
-        let y = read_at(scratch, j, b.across);
-        scratch[at] = pair_of(x, y);
-        i = after(i, gone(x, y), a.across);
-        j = after(j, gone(y, x), b.across);
-        at += 1;
     }
-    at - to
 }
