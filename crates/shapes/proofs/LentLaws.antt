@@ -1,7 +1,7 @@
 -- Checks 14 to 18 as the code asks them: each way out has the number that the definition has there, and what is taken has passed them all.
--- The levels that are left after i of them decide as all do where these i are in range.
+-- Whether the first i levels are in range and those left after them decide together as all do.
 use mathlib.Core.Path.{_≡_, refl, sym, ap, _∙_}
-use mathlib.Core.Bool.{Bool, true, false, _&&_, not, and-eq-true-iff}
+use mathlib.Core.Bool.{Bool, true, false, _&&_, not, and-true, and-false, and-assoc, and-eq-true-iff}
 use mathlib.Core.List.{List, [], _∷_}
 use Prim.Native.Nat.{ℕ, zero, suc, _+_, _*_, _-_, _≤_, _<_}
 use native.Mathlib.Numerals.{add-one}
@@ -15,36 +15,40 @@ use Rattle.checks.specs.Answer.{taken, number}
 use Rattle.checks.proofs.Answers.{ask-taken}
 use Rattle.shapes.specs.Listing.{levelsInRange, lentChecks}
 
--- What the loop over the levels keeps.
-pub record Checked (levels : List ℕ) (i : ℕ) : Type 0 where
-  pub inside : i ≤ length levels
-  pub same : levelsInRange (drop i levels) ≡ levelsInRange levels
+-- The ways out of the test of one level.
+module _ (before : Bool) (l : ℕ) where
+  pub also-low : l < 1 → false ≡ (before && (leb 1 l && leb l 8))
+  also-low low = sym (and-false before) ∙ simp (lt-leb 1 l low)
 
-pub checked-start : (levels : List ℕ) → Checked levels 0
+  pub also-high : 1 ≤ l → 8 < l → false ≡ (before && (leb 1 l && leb l 8))
+  also-high some high = sym (and-false before) ∙ simp (le-leb 1 l some, lt-leb l 8 high)
+
+  pub also-fine : 1 ≤ l → l ≤ 8 → before ≡ (before && (leb 1 l && leb l 8))
+  also-fine some most = sym (and-true before) ∙ simp (le-leb 1 l some, le-leb l 8 most)
+
+-- What the loop over the levels keeps: the first i and those left decide.
+pub record Checked (levels : List ℕ) (fine : Bool) (i : ℕ) : Type 0 where
+  pub inside : i ≤ length levels
+  pub same : (fine && levelsInRange (drop i levels)) ≡ levelsInRange levels
+
+pub checked-start : (levels : List ℕ) → Checked levels true 0
 checked-start levels = record { inside = omega arith; same = refl }
 
-module _ (levels : List ℕ) (i : ℕ) (k : Checked levels i) (more : i < length levels) where
-  first : levelsInRange (drop i levels) ≡ (leb 1 (getD levels i 0) && leb (getD levels i 0) 8 && levelsInRange (drop (suc i) levels))
-  first = ap levelsInRange (drop-cons levels i 0 more)
+pub checked-more : (levels : List ℕ) (fine next : Bool) (i : ℕ) → Checked levels fine i → i < length levels → next ≡ (fine && (leb 1 (getD levels i 0) && leb (getD levels i 0) 8)) → Checked levels next (i + 1)
+checked-more levels fine next i k more e =
+    record {
+      inside = omega arith;
+      same =
+          ap (λ (j : ℕ). next && levelsInRange (drop j levels)) (add-one i)
+          ∙ ap (λ (b : Bool). b && levelsInRange (drop (suc i) levels)) e
+          ∙ and-assoc fine (leb 1 (getD levels i 0) && leb (getD levels i 0) 8) (levelsInRange (drop (suc i) levels))
+          ∙ ap (λ (l : List ℕ). fine && levelsInRange l) (sym (drop-cons levels i 0 more))
+          ∙ k .same;
+    }
 
-  pub checked-low : getD levels i 0 < 1 → false ≡ levelsInRange levels
-  checked-low low = sym (sym (k .same) ∙ first ∙ simp (lt-leb 1 (getD levels i 0) low))
-
-  pub checked-high : 1 ≤ getD levels i 0 → 8 < getD levels i 0 → false ≡ levelsInRange levels
-  checked-high some high = sym (sym (k .same) ∙ first ∙ simp (le-leb 1 (getD levels i 0) some, lt-leb (getD levels i 0) 8 high))
-
-  pub checked-more : 1 ≤ getD levels i 0 → getD levels i 0 ≤ 8 → Checked levels (i + 1)
-  checked-more some most =
-      record {
-        inside = omega arith;
-        same =
-            ap (λ (j : ℕ). levelsInRange (drop j levels)) (add-one i)
-            ∙ sym (first ∙ simp (le-leb 1 (getD levels i 0) some, le-leb (getD levels i 0) 8 most))
-            ∙ k .same;
-      }
-
-pub checked-all : (levels : List ℕ) (i : ℕ) → Checked levels i → length levels ≤ i → true ≡ levelsInRange levels
-checked-all levels i k over = sym (sym (k .same) ∙ ap levelsInRange (drop-of-length-le levels over))
+pub checked-all : (levels : List ℕ) (fine : Bool) (i : ℕ) → Checked levels fine i → length levels ≤ i → fine ≡ levelsInRange levels
+checked-all levels fine i k over =
+    sym (and-true fine) ∙ ap (λ (l : List ℕ). fine && levelsInRange l) (sym (drop-of-length-le levels over)) ∙ k .same
 
 -- Each level is in range where they all are.
 pub level-in : (levels : List ℕ) (i : ℕ) → i < length levels → levelsInRange levels ≡ true → (1 ≤ getD levels i 0) × (getD levels i 0 ≤ 8)

@@ -1,6 +1,8 @@
 // The list call.
 ghost use mathlib.Core.Path.{_≡_};
+ghost use mathlib.Core.Bool.{_&&_};
 ghost use Prim.Native.Nat.{_≤_};
+ghost use lib.Dec.{leb};
 ghost use Rattle.checks.specs.Answer.{number};
 ghost use Rattle.shapes.specs.Listing.{levelsInRange, lentChecks, listCall, listed, listOutput, ListArena, ListScratch};
 ghost use Rattle.shapes.specs.Taken.{Writable, Wrote};
@@ -12,21 +14,30 @@ use parts::build::build;
 // The words that the arena and the scratch need.
 const WORDS: usize = 16_384;
 
-// Whether each level is 1 to 8.
+// Whether a level is 1 to 8, and those before it are in range.
+fn also_in_range(before: bool, level: u8) -> bool
+    ensures { λ r. ⌜ r ≡ (before && (leb 1 level && leb level 8)) ⌝ }
+{
+    if level < 1 {
+        return false;
+    }
+    if 8 < level {
+        return false;
+    }
+    before
+}
+
+// Whether each level is 1 to 8. With no way out before the last level, the machine compares many at once.
 pub fn levels_in_range(levels: &[u8]) -> bool
     ensures { λ r. ⌜ r ≡ levelsInRange (now (levels .entry)) ⌝ }
 {
+    let mut fine = true;
     let mut i = 0;
     while i < levels.len() {
-        if levels[i] < 1 {
-            return false;
-        }
-        if 8 < levels[i] {
-            return false;
-        }
+        fine = also_in_range(fine, levels[i]);
         i += 1;
     }
-    true
+    fine
 }
 
 // Checks 14 to 18, of the levels and of the lengths of the lent buffers: the number of the first that fails, or 0.
