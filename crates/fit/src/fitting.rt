@@ -96,8 +96,9 @@ fn found(z: u32, count: u32) -> Fitted
     }
 }
 
-// The smallest face of a taken file in an opening, its layout in the output.
-fn place_face(
+// The smallest face of a taken file in an opening, its layout in the output. No list is built in an arena. It is for
+// callers that have made the checks of the fit call.
+pub fn place_face(
     file: &[u8],
     gauges: usize,
     height: u32,

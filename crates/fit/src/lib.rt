@@ -5,6 +5,7 @@ mod pick;
 mod take;
 
 pub use fitting::fit;
+pub use fitting::place_face;
 
 // What the fit call answers: the number, and of the layout that was written its height, its width and their product,
 // and the length of the root's list. They are 0 where the number is not.

@@ -9,6 +9,7 @@ use lib.ListN.{length}
 use borrow.Author.Tests.{eq-eqb, ne-eqb}
 use Rattle.checks.specs.Check.{LevelCount}
 use Rattle.checks.specs.Answer.{taken, ask, number, outcome}
+use Rattle.checks.proofs.Answers.{same-taken}
 use Rattle.slicing.specs.Tree.{sizeCount, leastDepth}
 use Rattle.slicing.proofs.Depths.{depth-few, least-most}
 use Rattle.facefile.specs.declared.Face.{Face}
@@ -19,26 +20,38 @@ use Rattle.facefile.proofs.Taken.{face-taken}
 use Rattle.levels.specs.declared.depths.Depths.{Depths}
 use Rattle.levels.specs.Deep.{Deep}
 use Rattle.levels.specs.Levels.{topLevel, levelsFrom, levelsOf, levelsCall}
+use Rattle.levels.specs.Taken.{Fillable, OwnLevels}
 
--- What the calls inside the levels call ask for.
-module _ (file : List ℕ) (f : Face) (known : f ≡ summary (faceOf file)) (zero-number : f .number ≡ 0) where
-  pub sizes-few : f .sizes ≤ 512
-  sizes-few =
-      let counts = answer-taken f (faceOf file) known zero-number in
-      let most = face-taken file (counts .tree) (counts .face) .most in
-      let same = counts .sizes in
-      omega arith
+-- The sizes of a taken file are few.
+pub sizes-few : (file : List ℕ) (f : Face) → f ≡ summary (faceOf file) → f .number ≡ 0 → f .sizes ≤ 512
+sizes-few file f known zero-number =
+    let counts = answer-taken f (faceOf file) known zero-number in
+    let most = face-taken file (counts .tree) (counts .face) .most in
+    let same = counts .sizes in
+    omega arith
 
-  pub room-few : (room : ℕ) → room ≡ f .sizes → room ≤ 512
-  room-few room e = rw e sizes-few
+-- What the calls that fill the buffer ask for, and what they leave.
+module _ (file : List ℕ) (room : ℕ) (k : Fillable file room) where
+  pub room-few : room ≤ 512
+  room-few = let most = face-taken file (k .tree) (k .face) .most in let same = k .as-many in omega arith
 
   pub least-few : (d : Depths) → Deep file d → d .least ≤ 63
   unfolding Deep
   least-few d deep =
-      let counts = answer-taken f (faceOf file) known zero-number in
-      let depths = deep (counts .tree) (counts .face) in
-      let few = face-taken file (counts .tree) (counts .face) .few in
-      omega (arith, depth-few (counts .tree), least-most (counts .tree))
+      let depths = deep (k .tree) (k .face) in
+      let few = face-taken file (k .tree) (k .face) .few in
+      omega (arith, depth-few (k .tree), least-most (k .tree))
+
+  pub own-levels : (after : List ℕ) (top : ℕ) (d : Depths) → Deep file d → top ≡ topLevel room (d .least) (d .most) → after ≡ levelsFrom top 1 room → OwnLevels file after
+  unfolding Deep OwnLevels levelsOf
+  own-levels after top d deep e l t face =
+      let depths = deep t face in
+      let size : room ≡ sizeCount t = k .as-many ∙ ap sizeCount (same-taken (k .tree) t (sym (k .face) ∙ face)) in
+      l ∙ ap (λ (n : ℕ). levelsFrom top 1 n) size
+      ∙ ap (λ (n : ℕ). levelsFrom n 1 (sizeCount t))
+      (e ∙ ap (λ (n : ℕ). topLevel n (d .least) (d .most)) size
+      ∙ ap (λ (n : ℕ). topLevel (sizeCount t) n (d .most)) (depths .0)
+      ∙ ap (λ (n : ℕ). topLevel (sizeCount t) (leastDepth t) n) (depths .1))
 
 module _ (file before : List ℕ) (f : Face) (known : f ≡ summary (faceOf file)) where
   pub call-refused : (f .number ≡ 0 → ⊥) → (f .number ≡ number (levelsCall file (length before))) × (before ≡ outcome (levelsCall file (length before)) before (λ l. l))
@@ -60,15 +73,11 @@ module _ (file before : List ℕ) (f : Face) (known : f ≡ summary (faceOf file
         let other : length before ≡ sizeCount (counts .tree) → ⊥ = λ e. h (e ∙ sym (counts .sizes)) in
         rw (call-is, ne-eqb (length before) (sizeCount (counts .tree)) other) (refl, refl)
 
-    pub call-taken : (after : List ℕ) (top : ℕ) (d : Depths) → length before ≡ f .sizes → Deep file d → top ≡ topLevel (f .sizes) (d .least) (d .most) → after ≡ levelsFrom top 1 (length before) → (0 ≡ number (levelsCall file (length before))) × (after ≡ outcome (levelsCall file (length before)) before (λ l. l))
-    unfolding Deep levelsOf
-    call-taken after top d same deep e l =
-        let known-depths = deep (counts .tree) (counts .face) in
-        let size : length before ≡ sizeCount (counts .tree) = same ∙ counts .sizes in
-        let levels : after ≡ levelsOf (counts .tree) =
-        l ∙ ap (λ (n : ℕ). levelsFrom top 1 n) size
-        ∙ ap (λ (n : ℕ). levelsFrom n 1 (sizeCount (counts .tree)))
-        (e ∙ ap (λ (n : ℕ). topLevel n (d .least) (d .most)) (counts .sizes)
-        ∙ ap (λ (n : ℕ). topLevel (sizeCount (counts .tree)) n (d .most)) (known-depths .0)
-        ∙ ap (λ (n : ℕ). topLevel (sizeCount (counts .tree)) (leastDepth (counts .tree)) n) (known-depths .1)) in
-        rw (call-is, eq-eqb (length before) (sizeCount (counts .tree)) size) (refl, levels)
+    module _ (same : length before ≡ f .sizes) where
+      pub call-fills : Fillable file (length before)
+      call-fills = record { tree = counts .tree; face = counts .face; as-many = same ∙ counts .sizes }
+
+      pub call-taken : (after : List ℕ) → OwnLevels file after → (0 ≡ number (levelsCall file (length before))) × (after ≡ outcome (levelsCall file (length before)) before (λ l. l))
+      unfolding OwnLevels
+      call-taken after own =
+          rw (call-is, eq-eqb (length before) (sizeCount (counts .tree)) (same ∙ counts .sizes)) (refl, own (counts .tree) (counts .face))

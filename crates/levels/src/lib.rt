@@ -10,6 +10,7 @@ ghost use Prim.Native.Nat.{_≤_, min};
 ghost use lib.ListN.{length};
 ghost use Rattle.checks.specs.Answer.{number, outcome};
 ghost use Rattle.levels.specs.Levels.{uncutLevel, topLevel, levelsFrom, levelsCall};
+ghost use Rattle.levels.specs.Taken.{Fillable, OwnLevels};
 
 // The level of size r before it is cut to the top level, for a size of a face.
 fn uncut_level(r: usize) -> u8
@@ -57,6 +58,16 @@ fn fill_cut(levels: &mut [u8], top: u8)
     }
 }
 
+// Fills the buffer with the levels of the sizes of a taken file, which has as many. It is for callers that have made
+// checks 1 to 14.
+pub fn fill_taken(file: &[u8], levels: &mut [u8])
+    requires { ⌜ Fillable (now file) (length (now levels)) ⌝ }
+    ensures { λ _. ⌜ OwnLevels (now (file .entry)) (now (levels .exit)) ⌝ }
+{
+    let top = top_level(levels.len(), depths_of(file));
+    fill_cut(levels, top);
+}
+
 // Checks 1 to 14, then the levels of the face's sizes in the buffer, which has as many bytes. A refusal leaves the
 // buffer as it was.
 pub fn fill(file: &[u8], levels: &mut [u8]) -> u32
@@ -70,7 +81,6 @@ pub fn fill(file: &[u8], levels: &mut [u8]) -> u32
     if levels.len() != face.sizes {
         return checks::LEVEL_COUNT;
     }
-    let top = top_level(face.sizes, depths_of(file));
-    fill_cut(levels, top);
+    fill_taken(file, levels);
     checks::TAKEN
 }

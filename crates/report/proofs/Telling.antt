@@ -1,12 +1,11 @@
--- The text that is rendered of what the list call and the fit call leave is the one of the face, and of a refused file the one of its check.
--- The words of the list and of the layout stand at the starts of the outputs, and the answer of the fit says which of the two texts is due.
+-- The text that is rendered of the list that was written and of the face that was placed is the one of the face, and of a refused file the one of its check.
+-- The words of the list and of the layout stand at the starts of the outputs, and the answer of the placing says which of the two texts is due.
 use mathlib.Core.Path.{_≡_, refl, sym, ap, subst, _∙_}
 use mathlib.Core.List.{List}
 use Prim.Native.Nat.{ℕ, _*_, _≤_, _<_}
 use native.Mathlib.Omega.{arith}
 use lib.ListN.{length, take, drop, length-take}
 use lib.Seq.{take-at, length-take-le}
-use Rattle.checks.specs.Answer.{Answer, taken}
 use Rattle.slicing.specs.Item.{Item}
 use Rattle.slicing.specs.Tree.{Tree, gaugeCount}
 use Rattle.slicing.specs.Shapes.{shapes}
@@ -18,16 +17,17 @@ use Rattle.facefile.specs.Format.{faceOf}
 use Rattle.facefile.specs.Summary.{summary}
 use Rattle.facefile.proofs.Answered.{answer-taken, answer-refused}
 use Rattle.facefile.proofs.Taken.{face-taken}
-use Rattle.shapes.specs.declared.Listed.{Listed}
-use Rattle.shapes.specs.Listing.{listWords, writtenOver, listCall, listed, listOutput}
+use Rattle.shapes.specs.Listing.{listWords, writtenOver}
+use Rattle.shapes.specs.Taken.{Wrote, WroteFace}
 use Rattle.shapes.proofs.WordLaws.{words-length as list-words-length}
 use Rattle.fit.specs.declared.Fitted.{Fitted}
-use Rattle.fit.specs.Fitting.{fitChecks, faceFound, faceWords, fitted, fitOutput}
+use Rattle.fit.specs.Fitting.{faceFound, faceWords}
+use Rattle.fit.specs.Facing.{PlacedFace, PlacedIn}
 use Rattle.report.specs.Text.{facesText, refusedText}
 use Rattle.report.specs.Printing.{Printed, textBytes}
 use Rattle.report.specs.Faces.{widest, pickPrinted, answerPrinted, facesPrinted, FacesText}
 use Rattle.report.specs.Telling.{Tallied, Levelled, Worked}
-use Rattle.report.proofs.Levelling.{sizes-most, list-taken, fit-taken}
+use Rattle.report.proofs.Levelling.{sizes-most}
 
 other-text : (a b old new : List ℕ) (r : ℕ) → a ≡ b → Printed a old new r → Printed b old new r
 other-text a b old new r e p = subst (λ (x : List ℕ). Printed x old new r) e p
@@ -64,59 +64,47 @@ laid-by t p gauges old new g e z is =
     let long = words-length t (place 0 t z 0 0) in
     starts (5 * gauges) (words t (place 0 t z 0 0)) old new (e ∙ ap (λ (x : Pick). faceWords t x old) is) (omega arith)
 
-module _ (file levels : List ℕ) (gauges : ℕ) (arena scratch items arena' scratch' layout items' layout' : List ℕ) (l : Listed) (face : Fitted) where
-  -- Where the list call and then the fit call were lent enough.
+module _ (file levels : List ℕ) (gauges : ℕ) (arena items items' layout layout' : List ℕ) (count : ℕ) (face : Fitted) where
+  -- The list of a levelled face was written, and the face was placed.
   pub record Ran : Type 0 where
     pub ready : Levelled file levels gauges
-    pub arena-long : 16_384 ≤ length arena
-    pub scratch-long : 16_384 ≤ length scratch
-    pub items-long : 898 ≤ length items
-    pub list-is : l ≡ listed (listCall file levels arena scratch items)
-    pub items-is : items' ≡ listOutput (listCall file levels arena scratch items) items
-    pub arena-kept : length arena' ≡ length arena
-    pub scratch-kept : length scratch' ≡ length scratch
-    pub layout-long : 320 ≤ length layout
-    pub fit-is : face ≡ fitted (fitChecks file levels widest arena' scratch' layout) widest
-    pub layout-is : layout' ≡ fitOutput (fitChecks file levels widest arena' scratch' layout) widest layout
+    pub wrote : Wrote file levels items arena items' count
+    pub placed-in : PlacedIn file widest face layout layout'
 
   module _ (c : Ran) where
     abbrev t : Tree
     t = c .ready .tallied .tree
 
-    list-call : listCall file levels arena scratch items ≡ taken t
-    list-call = list-taken file levels arena scratch items gauges (c .ready) (c .arena-long) (c .scratch-long) (c .items-long)
+    list-written : WroteFace levels items arena items' count t
+    unfolding Wrote
+    list-written = c .wrote t (c .ready .tallied .face)
 
-    fit-call : fitChecks file levels widest arena' scratch' layout ≡ taken t
-    fit-call =
-        let arena-long = c .arena-long in
-        let scratch-long = c .scratch-long in
-        fit-taken file levels arena' scratch' layout gauges (c .ready) (omega (arith, c .arena-kept)) (omega (arith, c .scratch-kept)) (c .layout-long)
-
-    count-is : l .count ≡ length (shapes 0 t)
-    count-is = ap (λ (x : Listed). x .count) (c .list-is ∙ ap listed list-call)
+    face-placed : PlacedFace t widest face layout layout'
+    unfolding PlacedIn
+    face-placed = c .placed-in t (c .ready .tallied .face)
 
     -- What `told_text` asks.
-    pub told-asked : (text : List ℕ) → 898 ≡ length items' → 320 ≡ length layout' → textBytes ≤ length text → ((2 * l .count ≤ length items') × (length items' ≤ 2 * 449)) × ((5 * gauges ≤ length layout') × (length layout' ≤ 5 * 64) × (textBytes ≤ length text))
+    pub told-asked : (text : List ℕ) → 898 ≡ length items' → 320 ≡ length layout' → textBytes ≤ length text → ((2 * count ≤ length items') × (length items' ≤ 2 * 449)) × ((5 * gauges ≤ length layout') × (length layout' ≤ 5 * 64) × (textBytes ≤ length text))
     told-asked text items-same layout-same room =
         let most = sizes-most file t (c .ready .tallied .face) in
         let short = shapes-short 0 t (face-taken file t (c .ready .tallied .face) .good) in
-        let n = count-is in
+        let n = list-written .counted in
         let few = face-taken file t (c .ready .tallied .face) .few in
         let g = c .ready .tallied .gauges-is in
         ((omega arith, omega arith), (omega arith, omega arith, room))
 
-    pub worked : Worked t face (l .count) items' gauges layout'
+    pub worked : Worked t face count items' gauges layout'
     worked =
         record {
-          fitted-is = c .fit-is ∙ ap (λ (a : Answer Tree). fitted a widest) fit-call;
+          fitted-is = face-placed .answer;
           listed =
               let long = list-words-length (shapes 0 t) in
-              let n = count-is in
-              starts (2 * l .count) (listWords (shapes 0 t)) items items' (c .items-is ∙ ap (λ (a : Answer Tree). listOutput a items) list-call) (omega arith);
-          laid = laid-by t (smallest widest (shapes 0 t)) gauges layout layout' (c .ready .tallied .gauges-is) (c .layout-is ∙ ap (λ (a : Answer Tree). fitOutput a widest layout) fit-call);
+              let n = list-written .counted in
+              starts (2 * count) (listWords (shapes 0 t)) items items' (list-written .output) (omega arith);
+          laid = laid-by t (smallest widest (shapes 0 t)) gauges layout layout' (c .ready .tallied .gauges-is) (face-placed .written);
         }
 
-    pub placed-text : (old new : List ℕ) (r : ℕ) → ((u : Tree) → Worked u face (l .count) items' gauges layout' → Printed (pickPrinted u (smallest widest (shapes 0 u))) old new r) → Printed (facesPrinted file) old new r
+    pub placed-text : (old new : List ℕ) (r : ℕ) → ((u : Tree) → Worked u face count items' gauges layout' → Printed (pickPrinted u (smallest widest (shapes 0 u))) old new r) → Printed (facesPrinted file) old new r
     unfolding facesPrinted
     placed-text old new r p =
         other-text (pickPrinted t (smallest widest (shapes 0 t))) (facesPrinted file) old new r (sym (ap answerPrinted (c .ready .tallied .face))) (p t worked)

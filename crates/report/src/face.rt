@@ -44,7 +44,7 @@ fn layout_room() -> [u32; 320]
     [0; 320]
 }
 
-// The text of a face by what the fit call answered, from the starts of the list call's and the fit call's outputs.
+// The text of a face by what its placing answered, from the starts of the outputs of its list and of its layout.
 fn told_text(
     face: Fitted,
     count: u32,
@@ -89,9 +89,9 @@ fn placed_text(
 {
     let mut items = items_room();
     let mut layout = layout_room();
-    let listed = shapes::list(file, levels, arena, scratch, &mut items);
-    let face = fit::fit(file, levels, OPENING, OPENING, arena, scratch, &mut layout);
-    told_text(face, listed.count, &items, gauges, &layout, text)
+    let count = shapes::write_list(file, levels, arena, &mut items);
+    let face = fit::place_face(file, gauges, OPENING, OPENING, scratch, &mut layout);
+    told_text(face, count, &items, gauges, &layout, text)
 }
 
 // The text of a taken face, by way of a levels buffer of as many bytes as it has sizes.
@@ -103,12 +103,12 @@ fn taken_text(file: &[u8], gauges: usize, levels: &mut [u8], text: &mut [u8]) ->
 {
     let mut arena = words_room();
     let mut scratch = words_room();
-    levels::fill(file, levels);
+    levels::fill_taken(file, levels);
     placed_text(file, levels, gauges, &mut arena, &mut scratch, text)
 }
 
 // The text that `faces` prints for a file of these bytes, in a buffer with room for every text. Answers its length; 0,
-// with the buffer as it was, where there is less room.
+// with the buffer as it was, where there is less room. The file's checks are made once, and its list is built once.
 pub fn faces_text(file: &[u8], text: &mut [u8]) -> usize
     ensures { λ r. ⌜ FacesText (now (file .entry)) (now (text .entry)) (now (text .exit)) r ⌝ }
     ensures { λ r. ⌜ Counted textBytes (now (text .exit)) r ⌝ }

@@ -4,6 +4,7 @@ mod write;
 
 pub use listing::levels_in_range;
 pub use listing::list;
+pub use listing::write_list;
 
 // What the list call answers: the number, and the item count, which is 0 where the number is not.
 pub struct Listed {

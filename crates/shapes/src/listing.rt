@@ -70,8 +70,9 @@ fn lent_number(
     checks::TAKEN
 }
 
-// The list of a face that is taken, in the arena and in the output. Answers the item count.
-fn write_list(file: &[u8], levels: &[u8], arena: &mut [u32], output: &mut [u32]) -> u32
+// The list of a face that is taken, in the arena and in the output. Answers the item count. It is for callers that have
+// made the checks of the list call.
+pub fn write_list(file: &[u8], levels: &[u8], arena: &mut [u32], output: &mut [u32]) -> u32
     requires { ⌜ Writable (now file) (now levels) (now arena) (now output) ⌝ }
     ensures { λ count. ⌜ Wrote (now (file .entry)) (now (levels .entry)) (now (output .entry)) (now (arena .exit)) (now (output .exit)) count ⌝ }
 {

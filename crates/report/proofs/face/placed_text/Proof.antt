@@ -1,7 +1,8 @@
 -- `report::face::placed_text` meets its contract.
--- The list call and the fit call take the face, so what they leave is what `told_text` asks, by the laws of `Ran`.
+-- The face is taken and has its levels, so its list is written and it is placed; what that leaves is what `told_text` asks, by the laws of `Ran`.
 use native.Mathlib.Omega.{arith}
 use borrow.Author.Needs.{needs}
+use Rattle.report.proofs.Levelling.{writable, placeable}
 use Rattle.report.proofs.Telling.{told-asked, placed-text}
 use Rattle.report.proofs.face.placed_text.Statement.{statement}
 use Rattle.report.proofs.face.placed_text.Tie as tie
@@ -12,17 +13,23 @@ items-room-requires c κs = search needs
 layout-room-requires : tie.Need-layout-room-requires
 layout-room-requires c κs = search needs
 
-slice-aggregate-list : tie.Need-slice-aggregate-list
-slice-aggregate-list c = search needs
+slice-aggregate-write-list : tie.Need-slice-aggregate-write-list
+slice-aggregate-write-list c = search needs
 
-list-requires : tie.Need-list-requires
-list-requires c κs = search needs
+write-list-requires : tie.Need-write-list-requires
+write-list-requires c κs =
+    let at-items-room = c .before .before .before in
+    let entry = at-items-room .before .before .before .before .before .before in
+    writable _ _ _ (entry .pre .0) _ _ (entry .pre .1 .0) (omega (arith, at-items-room .items-room .ensures))
 
-slice-aggregate-fit : tie.Need-slice-aggregate-fit
-slice-aggregate-fit c = search needs
+slice-aggregate-place-face : tie.Need-slice-aggregate-place-face
+slice-aggregate-place-face c = search needs
 
-fit-requires : tie.Need-fit-requires
-fit-requires c κs = search needs
+place-face-requires : tie.Need-place-face-requires
+place-face-requires c κs =
+    let at-layout-room = c .before .before .before .before .before .before .before .before in
+    let entry = at-layout-room .before .before .before .before .before .before .before in
+    placeable _ _ _ (entry .pre .0) _ _ (entry .pre .1 .1) (omega (arith, at-layout-room .layout-room .ensures))
 
 slice-aggregate-told-text : tie.Need-slice-aggregate-told-text
 slice-aggregate-told-text c = search needs
@@ -32,24 +39,12 @@ slice-aggregate-told-text-2 c = search needs
 
 told-text-requires : tie.Need-told-text-requires
 told-text-requires c κs =
-    let at-fit = c .before .before .before .before .before .before .before .before in
-    let at-list = at-fit .before .before .before .before .before .before .before .before .before in
-    let at-layout-room = at-list .before .before .before .before in
-    let at-items-room = at-layout-room .before in
+    let at-place-face = c .before .before .before .before .before .before in
+    let at-write-list = at-place-face .before .before .before .before .before .before in
+    let at-items-room = at-write-list .before .before .before .before in
     let entry = at-items-room .before .before .before .before .before .before in
-    told-asked (entry .args .file .now) (entry .args .levels .now) (entry .args .gauges) (entry .args .arena .now) (entry .args .scratch .now) (at-items-room .items-room .result) _ _ (at-layout-room .layout-room .result) _ _ (at-list .list .result) (at-fit .fit .result) (record {
-      ready = entry .pre .0;
-      arena-long = entry .pre .1 .0;
-      scratch-long = entry .pre .1 .1;
-      items-long = omega (arith, at-items-room .items-room .ensures);
-      list-is = at-list .list .ensures .0;
-      items-is = at-list .list .ensures .1 .0;
-      arena-kept = at-list .list .kept .1 .1 .0;
-      scratch-kept = at-list .list .kept .1 .1 .1 .0;
-      layout-long = omega (arith, at-layout-room .layout-room .ensures);
-      fit-is = at-fit .fit .ensures .0;
-      layout-is = at-fit .fit .ensures .1 .0;
-    }) (entry .args .text .now) (slice-aggregate-told-text (c .before .before)) (slice-aggregate-told-text-2 (c .before)) (entry .pre .1 .2)
+    told-asked (entry .args .file .now) _ _ _ _ _ _ _ _ _ (record { ready = entry .pre .0; wrote = at-write-list .write-list .ensures; placed-in = at-place-face .place-face .ensures })
+    (entry .args .text .now) (slice-aggregate-told-text (c .before .before)) (slice-aggregate-told-text-2 (c .before)) (entry .pre .1 .2)
 
 same-length : tie.Need-same-length
 same-length c = search needs
@@ -62,25 +57,14 @@ same-length-3 c = search needs
 
 returns : tie.Need-returns
 returns c =
-    let at-fit = c .before .before .before .before .before .before .before .before .before .before .before in
-    let at-list = at-fit .before .before .before .before .before .before .before .before .before in
-    let at-layout-room = at-list .before .before .before .before in
-    let at-items-room = at-layout-room .before in
+    let at-told-text = c .before .before in
+    let at-place-face = at-told-text .before .before .before .before .before .before .before in
+    let at-write-list = at-place-face .before .before .before .before .before .before in
+    let at-items-room = at-write-list .before .before .before .before in
     let entry = at-items-room .before .before .before .before .before .before in (
-      placed-text (entry .args .file .now) (entry .args .levels .now) (entry .args .gauges) (entry .args .arena .now) (entry .args .scratch .now) (at-items-room .items-room .result) _ _ (at-layout-room .layout-room .result) _ _ (at-list .list .result) (at-fit .fit .result) (record {
-        ready = entry .pre .0;
-        arena-long = entry .pre .1 .0;
-        scratch-long = entry .pre .1 .1;
-        items-long = omega (arith, at-items-room .items-room .ensures);
-        list-is = at-list .list .ensures .0;
-        items-is = at-list .list .ensures .1 .0;
-        arena-kept = at-list .list .kept .1 .1 .0;
-        scratch-kept = at-list .list .kept .1 .1 .1 .0;
-        layout-long = omega (arith, at-layout-room .layout-room .ensures);
-        fit-is = at-fit .fit .ensures .0;
-        layout-is = at-fit .fit .ensures .1 .0;
-      }) _ _ _ (c .before .before .told-text .ensures .0),
-      c .before .before .told-text .ensures .1,
+      placed-text (entry .args .file .now) _ _ _ _ _ _ _ _ _ (record { ready = entry .pre .0; wrote = at-write-list .write-list .ensures; placed-in = at-place-face .place-face .ensures })
+          _ _ _ (at-told-text .told-text .ensures .0),
+      at-told-text .told-text .ensures .1,
     )
 
 pub placed-text-spec : {M : Type 1} → statement M
@@ -89,10 +73,10 @@ placed-text-spec =
     (tie.spec
     items-room-requires
     layout-room-requires
-    slice-aggregate-list
-    list-requires
-    slice-aggregate-fit
-    fit-requires
+    slice-aggregate-write-list
+    write-list-requires
+    slice-aggregate-place-face
+    place-face-requires
     slice-aggregate-told-text
     slice-aggregate-told-text-2
     told-text-requires

@@ -11,8 +11,8 @@ words-room-requires c κs = search needs
 words-room-requires-2 : tie.Need-words-room-requires-2
 words-room-requires-2 c κs = search needs
 
-fill-requires : tie.Need-fill-requires
-fill-requires c κs = search needs
+fill-taken-requires : tie.Need-fill-taken-requires
+fill-taken-requires c κs = search needs
 
 slice-aggregate-placed-text : tie.Need-slice-aggregate-placed-text
 slice-aggregate-placed-text c = search needs
@@ -22,11 +22,9 @@ slice-aggregate-placed-text-2 c = search needs
 
 placed-text-requires : tie.Need-placed-text-requires
 placed-text-requires c κs =
-    let at-fill = c .before .before .before .before .before .before in
-    let entry = at-fill .before .before .before .before .before .before .before in (
-      levelled (entry .args .file .now) (entry .args .levels .now) _ (entry .args .gauges) (entry .pre .0) (at-fill .fill .ensures .1),
-      search needs,
-    )
+    let at-fill-taken = c .before .before .before .before .before .before in
+    let entry = at-fill-taken .before .before .before .before .before .before .before in
+    (levelled _ _ _ (entry .pre .0) _ (at-fill-taken .fill-taken .ensures), search needs)
 
 same-length : tie.Need-same-length
 same-length c = search needs
@@ -43,7 +41,7 @@ taken-text-spec =
     (tie.spec
     words-room-requires
     words-room-requires-2
-    fill-requires
+    fill-taken-requires
     slice-aggregate-placed-text
     slice-aggregate-placed-text-2
     placed-text-requires
