@@ -23,7 +23,7 @@ fn levels_room() -> [u8; 512]
     [0; 512]
 }
 
-// An arena or a scratch.
+// An arena, and then a scratch.
 fn words_room() -> [u32; 16_384]
     ensures { λ r. ⌜ 16384 ≡ length r ⌝ }
 {
@@ -73,24 +73,24 @@ fn told_text(
     )
 }
 
-// The text of a face whose sizes have levels, by way of an arena and a scratch.
+// The text of a face whose sizes have levels, by way of words that are first the arena of its list and then, with the
+// list written, the scratch of its layout.
 fn placed_text(
     file: &[u8],
     levels: &[u8],
     gauges: usize,
-    arena: &mut [u32],
-    scratch: &mut [u32],
+    words: &mut [u32],
     text: &mut [u8],
 ) -> usize
     requires { ⌜ Levelled (now file) (now levels) gauges ⌝ }
-    requires { ⌜ (16384 ≤ length (now arena)) × (16384 ≤ length (now scratch)) × (textBytes ≤ length (now text)) ⌝ }
+    requires { ⌜ (16384 ≤ length (now words)) × (textBytes ≤ length (now text)) ⌝ }
     ensures { λ r. ⌜ Printed (facesPrinted (now (file .entry))) (now (text .entry)) (now (text .exit)) r ⌝ }
     ensures { λ r. ⌜ Counted textBytes (now (text .exit)) r ⌝ }
 {
     let mut items = items_room();
     let mut layout = layout_room();
-    let count = shapes::write_list(file, levels, arena, &mut items);
-    let face = fit::place_face(file, gauges, OPENING, OPENING, scratch, &mut layout);
+    let count = shapes::write_list(file, levels, words, &mut items);
+    let face = fit::place_face(file, gauges, OPENING, OPENING, words, &mut layout);
     told_text(face, count, &items, gauges, &layout, text)
 }
 
@@ -101,10 +101,9 @@ fn taken_text(file: &[u8], gauges: usize, levels: &mut [u8], text: &mut [u8]) ->
     ensures { λ r. ⌜ Printed (facesPrinted (now (file .entry))) (now (text .entry)) (now (text .exit)) r ⌝ }
     ensures { λ r. ⌜ Counted textBytes (now (text .exit)) r ⌝ }
 {
-    let mut arena = words_room();
-    let mut scratch = words_room();
+    let mut words = words_room();
     levels::fill_taken(file, levels);
-    placed_text(file, levels, gauges, &mut arena, &mut scratch, text)
+    placed_text(file, levels, gauges, &mut words, text)
 }
 
 // The text that `faces` prints for a file of these bytes, in a buffer with room for every text. Answers its length; 0,

@@ -19,7 +19,7 @@ slice-aggregate-write-list c = search needs
 write-list-requires : tie.Need-write-list-requires
 write-list-requires c κs =
     let at-items-room = c .before .before .before in
-    let entry = at-items-room .before .before .before .before .before .before in
+    let entry = at-items-room .before .before .before .before .before in
     writable _ _ _ (entry .pre .0) _ _ (entry .pre .1 .0) (omega (arith, at-items-room .items-room .ensures))
 
 slice-aggregate-place-face : tie.Need-slice-aggregate-place-face
@@ -28,8 +28,10 @@ slice-aggregate-place-face c = search needs
 place-face-requires : tie.Need-place-face-requires
 place-face-requires c κs =
     let at-layout-room = c .before .before .before .before .before .before .before .before in
-    let entry = at-layout-room .before .before .before .before .before .before .before in
-    placeable _ _ _ (entry .pre .0) _ _ (entry .pre .1 .1) (omega (arith, at-layout-room .layout-room .ensures))
+    let entry = at-layout-room .before .before .before .before .before .before in
+    let long = entry .pre .1 .0 in
+    let same = c .before .before .before .before .before .write-list .kept in
+    placeable _ _ _ (entry .pre .0) _ _ (omega arith) (omega (arith, at-layout-room .layout-room .ensures))
 
 slice-aggregate-told-text : tie.Need-slice-aggregate-told-text
 slice-aggregate-told-text c = search needs
@@ -42,9 +44,9 @@ told-text-requires c κs =
     let at-place-face = c .before .before .before .before .before .before in
     let at-write-list = at-place-face .before .before .before .before .before .before in
     let at-items-room = at-write-list .before .before .before .before in
-    let entry = at-items-room .before .before .before .before .before .before in
+    let entry = at-items-room .before .before .before .before .before in
     told-asked (entry .args .file .now) _ _ _ _ _ _ _ _ _ (record { ready = entry .pre .0; wrote = at-write-list .write-list .ensures; placed-in = at-place-face .place-face .ensures })
-    (entry .args .text .now) (slice-aggregate-told-text (c .before .before)) (slice-aggregate-told-text-2 (c .before)) (entry .pre .1 .2)
+    (entry .args .text .now) (slice-aggregate-told-text (c .before .before)) (slice-aggregate-told-text-2 (c .before)) (entry .pre .1 .1)
 
 same-length : tie.Need-same-length
 same-length c = search needs
@@ -52,16 +54,13 @@ same-length c = search needs
 same-length-2 : tie.Need-same-length-2
 same-length-2 c = search needs
 
-same-length-3 : tie.Need-same-length-3
-same-length-3 c = search needs
-
 returns : tie.Need-returns
 returns c =
     let at-told-text = c .before .before in
     let at-place-face = at-told-text .before .before .before .before .before .before .before in
     let at-write-list = at-place-face .before .before .before .before .before .before in
     let at-items-room = at-write-list .before .before .before .before in
-    let entry = at-items-room .before .before .before .before .before .before in (
+    let entry = at-items-room .before .before .before .before .before in (
       placed-text (entry .args .file .now) _ _ _ _ _ _ _ _ _ (record { ready = entry .pre .0; wrote = at-write-list .write-list .ensures; placed-in = at-place-face .place-face .ensures })
           _ _ _ (at-told-text .told-text .ensures .0),
       at-told-text .told-text .ensures .1,
@@ -82,5 +81,4 @@ placed-text-spec =
     told-text-requires
     same-length
     same-length-2
-    same-length-3
     returns)

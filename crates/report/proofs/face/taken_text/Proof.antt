@@ -8,22 +8,16 @@ use Rattle.report.proofs.face.taken_text.Tie as tie
 words-room-requires : tie.Need-words-room-requires
 words-room-requires c κs = search needs
 
-words-room-requires-2 : tie.Need-words-room-requires-2
-words-room-requires-2 c κs = search needs
-
 fill-taken-requires : tie.Need-fill-taken-requires
 fill-taken-requires c κs = search needs
 
 slice-aggregate-placed-text : tie.Need-slice-aggregate-placed-text
 slice-aggregate-placed-text c = search needs
 
-slice-aggregate-placed-text-2 : tie.Need-slice-aggregate-placed-text-2
-slice-aggregate-placed-text-2 c = search needs
-
 placed-text-requires : tie.Need-placed-text-requires
 placed-text-requires c κs =
-    let at-fill-taken = c .before .before .before .before .before .before in
-    let entry = at-fill-taken .before .before .before .before .before .before .before in
+    let at-fill-taken = c .before .before .before .before .before in
+    let entry = at-fill-taken .before .before .before .before .before .before in
     (levelled _ _ _ (entry .pre .0) _ (at-fill-taken .fill-taken .ensures), search needs)
 
 same-length : tie.Need-same-length
@@ -40,10 +34,8 @@ taken-text-spec =
     tie.close
     (tie.spec
     words-room-requires
-    words-room-requires-2
     fill-taken-requires
     slice-aggregate-placed-text
-    slice-aggregate-placed-text-2
     placed-text-requires
     same-length
     same-length-2
