@@ -55,6 +55,15 @@ def lopsided_back(gauges, joins):
     return tree
 
 
+def lopsided_either(gauges, joins, numbers):
+    """Each gauge after the first is joined to all before it, as the newer or as the older part."""
+    tree = gauges[0]
+    for i, other in enumerate(gauges[1:]):
+        join = joins[i % len(joins)]
+        tree = (join, tree, other) if numbers.below(2) == 0 else (join, other, tree)
+    return tree
+
+
 def balanced(gauges, joins):
     """Halves of halves. The joins are taken in turn on the way down."""
     if len(gauges) == 1:
@@ -109,6 +118,19 @@ def eights(start, gauges=64):
     return [any_gauge(numbers, 8) for _ in range(gauges)]
 
 
+def long_both_ways(start, gauges=64):
+    """Gauges of eight sizes. The least height and the least width of each are 1, and the others one in each of seven
+    bands from 40 on. A face of 64 of them, joined in turn each way, has items down to 32 high and to 33 wide: of the
+    sizes that come to it seven of eight go on its list, but for those whose height or width is there already."""
+    numbers = Numbers(start)
+    made = []
+    for _ in range(gauges):
+        heights = [40 + 137 * band + numbers.below(137) for band in reversed(range(7))] + [1]
+        widths = [1] + [40 + 137 * band + numbers.below(137) for band in range(7)]
+        made.append(list(zip(heights, widths)))
+    return made
+
+
 def long_by_height(gauges=64):
     """Gauges of eight sizes. All heights differ, but for the last size of each gauge, whose height is 1: so every
     height but one is on the list of them side by side, and that one stands for the last size of each."""
@@ -136,6 +158,11 @@ def few_heights(start, gauges):
         widths = sorted(1 + 100 * i + numbers.below(100) for i in range(count))
         made.append(list(zip(sorted(heights, reverse=True), widths)))
     return made
+
+
+def alternating_many(gauges=64):
+    """A long list that is turned at each join, with gauges joined at either end."""
+    return lopsided_either(long_both_ways(5, gauges), [BESIDE, STACKED], Numbers(5))
 
 
 # ---------------------------------------------------------------------------------------------------------------
@@ -300,6 +327,7 @@ taken("balanced-64", tree_face(balanced(eights(18), [BESIDE, STACKED])), "64 gau
 taken("balanced-64-stacked", tree_face(balanced(eights(19), [STACKED, BESIDE])), "64 gauges of 8 sizes.")
 taken("alternating-64", tree_face(lopsided(eights(20), [STACKED, BESIDE])), "64 gauges of 8 sizes, the root stacked.")
 taken("alternating-64-back", tree_face(lopsided_back(eights(21), [BESIDE, STACKED])), "The root is side by side.")
+taken("alternating-64-many", tree_face(alternating_many()), "A long list, turned at each join.")
 
 # --- Refused files: 1 to 13. crates/face_cases has more of each.
 ONE = gauge((60, 40))
