@@ -1,4 +1,5 @@
-// The list call and the fit call on one file, each once by each program that is measured.
+// The list call and the fit call on one file, each once by each program that is measured, and the reading call twice by
+// each: on the list that Rattle left in the arena, and on the one that C left.
 //
 //     calls FILE LEVELS
 //
@@ -13,6 +14,7 @@
 #include "lazy.h"
 #include "lists.h"
 #include "rattle.h"
+#include "reading.h"
 #include "stored.h"
 
 enum { OPENING = 64000, PAIRS = 2 * 449, PLACES = 5 * 64 };
@@ -58,15 +60,24 @@ static __attribute__((noinline)) size_t touched(void) {
 
 // ---- the calls
 
+// Reads p of the last item of the list that the arena holds.
+static void read_last(size_t items, uint32_t p, const char *what) {
+    hold(rattle_read(arena_room, WORDS, (uint32_t)items) == p, what);
+    hold(arena_read(arena, (uint32_t)items) == p, "what is read in C");
+}
+
 // Answers with the stack that Rattle's call touched.
 static size_t lists(bytes file, bytes levels, size_t *items) {
     static uint32_t plain[PAIRS], lazy[PAIRS], rattle[PAIRS];
     *items = plain_list(file, levels, arena, scratch, (words){plain, PAIRS});
+    uint32_t last_p = file.bytes[file.length - 1] == JOIN_STACKED ? plain[0] : plain[2 * *items - 1];
     size_t lazy_count = lazy_list(file, levels, arena, scratch, (words){lazy, PAIRS});
+    read_last(*items, last_p, "what is read of the lazy list in C");
     paint();
     size_t rattle_count = rattle_list(file.bytes, file.length, levels.bytes, levels.length, arena_room, WORDS,
                                       scratch_room, WORDS, rattle, PAIRS);
     size_t stack = touched();
+    read_last(*items, last_p, "what is read of Rattle's list");
     hold(lazy_count == *items && memcmp(lazy, plain, sizeof plain) == 0, "the lazy list in C");
     hold(rattle_count == *items && memcmp(rattle, plain, sizeof plain) == 0, "Rattle's list");
     return stack;

@@ -7,12 +7,14 @@ typedef struct {
 
 static unsigned field(const uint8_t *b) { return 256u * b[0] + b[1]; }
 
+// The first size has none before it: the heights and widths that stand for it make no check fail.
 static unsigned sizes_number(const uint8_t *b, size_t count) {
-    unsigned height_before = 0, width_before = 0;
+    unsigned height_before = 0xFFFF, width_before = 0;
     for (size_t i = 0; i < count; i++) {
-        unsigned height = field(b + 4 * i), width = field(b + 4 * i + 2);
-        if (height < 1 || height > 1000 || width < 1 || width > 1000) return 8;
-        if (i > 0 && (height >= height_before || width <= width_before)) return 9;
+        uint32_t size = size_word(b + 4 * i);
+        unsigned height = size >> 16, width = size & 0xFFFF;
+        if (height - 1 > 999 || width - 1 > 999) return 8;
+        if (height >= height_before || width <= width_before) return 9;
         height_before = height;
         width_before = width;
     }
@@ -59,20 +61,23 @@ static unsigned file_number(bytes file, cursor *c) {
     return c->at == file.length ? 0 : 13;
 }
 
+// A level of 1 to 8, less 1, is in the low three bits.
 static unsigned levels_number(bytes levels, const cursor *c) {
     if (levels.length != c->sizes) return 14;
-    for (size_t i = 0; i < levels.length; i++) {
-        if (levels.bytes[i] < 1 || levels.bytes[i] > 8) return 15;
-    }
-    return 0;
+    uint8_t high = 0;
+    for (size_t i = 0; i < levels.length; i++) high |= (uint8_t)(levels.bytes[i] - 1) & 0xF8;
+    return high == 0 ? 0 : 15;
 }
 
-// The two functions below begin alike. With one function for that beginning gcc's code took 1,200 instructions more.
+// Checks 1 to 15.
+static unsigned both_number(bytes file, bytes levels, cursor *c) {
+    unsigned number = file_number(file, c);
+    return number == 0 ? levels_number(levels, c) : number;
+}
 
 unsigned list_number(bytes file, bytes levels, words arena, words scratch, words output) {
     cursor c = {0, 0, 0, 0};
-    unsigned number = file_number(file, &c);
-    if (number == 0) number = levels_number(levels, &c);
+    unsigned number = both_number(file, levels, &c);
     if (number != 0) return number;
     if (arena.length < 16384 || scratch.length < 16384) return 17;
     return output.length < 2 * (c.sizes - c.gauges + 1) ? 18 : 0;
@@ -81,8 +86,7 @@ unsigned list_number(bytes file, bytes levels, words arena, words scratch, words
 unsigned fit_number(bytes file, bytes levels, uint32_t height, uint32_t width, words arena, words scratch,
                     words output) {
     cursor c = {0, 0, 0, 0};
-    unsigned number = file_number(file, &c);
-    if (number == 0) number = levels_number(levels, &c);
+    unsigned number = both_number(file, levels, &c);
     if (number != 0) return number;
     if (height < 1 || height > 64000 || width < 1 || width > 64000) return 16;
     if (arena.length < 16384 || scratch.length < 16384) return 17;

@@ -6,6 +6,7 @@
 #include <stdbool.h>
 #include <stddef.h>
 #include <stdint.h>
+#include <string.h>
 
 enum { GAUGE = 1, BESIDE = 2, JOIN_STACKED = 3 };
 
@@ -23,6 +24,13 @@ typedef struct {
 // all others, gauges too, by height.
 static inline bool runs_across(uint32_t part, uint32_t join) {
     return (part == JOIN_STACKED) != (join == JOIN_STACKED);
+}
+
+// A size of a file: the height in the high half of a word, the width in the low half.
+static inline uint32_t size_word(const uint8_t *size) {
+    uint32_t word;
+    memcpy(&word, size, sizeof word);
+    return __builtin_bswap32(word);
 }
 
 // Checks 1 to 15, 17 and 18 of the list call: the number of the first that fails, or 0.

@@ -1,192 +1,340 @@
-// See lazy.h. The functions have the names of those of crates/arena and crates/merging.
+// See lazy.h.
+//
+// Link k here is link k + 1 of document 01. The sum of a link is that of the adjusts from it up, so that true p is p
+// and the sum of link `level`. Adjust 0 is in no sum. The adjusts of every head are 0, and while a list is made so is,
+// for each link, the adjust of the last record that has it: what is put behind needs no correction. No adjust is below
+// zero.
 #include "lazy.h"
 
-static uint32_t get(const uint32_t *arena, size_t r, size_t j) { return arena[STRIDE * r + j]; }
+#include <string.h>
 
-static void store(uint32_t *arena, size_t r, size_t j, uint32_t v) { arena[STRIDE * r + j] = v; }
+#include "face.h"
 
-static void raise(uint32_t *arena, size_t r, size_t j, uint32_t v) { arena[STRIDE * r + j] += v; }
+#define INLINE static inline __attribute__((always_inline))
 
-// ---- arena
+INLINE uint32_t *record(uint32_t *arena, size_t r) { return arena + STRIDE * r; }
 
-static void clear_head(uint32_t *arena, size_t head) {
-    for (size_t j = 3; j < STRIDE; j++) store(arena, head, j, 0);
-    store(arena, head, 0, 8);
+static void clear_head(uint32_t *head) {
+    head[LEVEL] = LINKS;
+    memset(head + FORWARD, 0, 2 * LINKS * sizeof *head);
 }
 
-static void prepend(uint32_t *arena, size_t head, size_t r) {
-    size_t level = get(arena, r, 0);
-    for (size_t k = 0; k < level; k++) {
-        store(arena, r, 3 + k, get(arena, head, 3 + k));
-        store(arena, r, 11 + k, 0);
-        store(arena, head, 3 + k, (uint32_t)r);
+// ---- lists made anew, from the last record to the first
+
+// Puts a record of a level in front of a list, at the links above the lowest.
+INLINE void hook(uint32_t *head, uint32_t *x, uint32_t r, size_t level) {
+    for (size_t k = level - 1; k > 0; k--) {
+        x[FORWARD + k] = head[FORWARD + k];
+        x[ADJUST + k] = 0;
+        head[FORWARD + k] = r;
     }
 }
 
-static uint32_t field(const uint8_t *bytes, size_t at) { return 256u * bytes[at] + bytes[at + 1]; }
+INLINE void put_first(uint32_t *head, uint32_t *x, uint32_t r, uint32_t level, uint32_t m, uint32_t p, uint32_t next) {
+    x[LEVEL] = level;
+    x[M] = m;
+    x[P] = p;
+    x[FORWARD] = next;
+    hook(head, x, r, level);
+}
 
-void lazy_load(uint32_t *arena, size_t head, size_t first, const uint8_t *sizes, const uint8_t *levels, size_t count) {
-    clear_head(arena, head);
-    for (size_t i = count; i > 0; i--) {
-        size_t k = i - 1, r = first + k;
-        store(arena, r, 0, levels[k]);
-        store(arena, r, 1, field(sizes, 4 * k));
-        store(arena, r, 2, field(sizes, 4 * k + 2));
-        prepend(arena, head, r);
+void lazy_load(uint32_t *arena, size_t head, size_t first, const uint8_t *sizes, const uint8_t *levels, size_t count,
+               bool across) {
+    uint32_t *h = record(arena, head), next = 0;
+    clear_head(h);
+    if (across) {
+        uint32_t r = (uint32_t)first, *x = record(arena, r);
+        for (size_t i = 0; i < count; i++, x += STRIDE) {
+            uint32_t size = size_word(sizes + 4 * i);
+            put_first(h, x, r, levels[i], size & 0xFFFF, size >> 16, next);
+            next = r++;
+        }
+    } else {
+        uint32_t r = (uint32_t)(first + count), *x = record(arena, r);
+        for (size_t i = count; i-- > 0;) {
+            uint32_t size = size_word(sizes + 4 * i);
+            x -= STRIDE;
+            r--;
+            put_first(h, x, r, levels[i], size >> 16, size & 0xFFFF, next);
+            next = r;
+        }
     }
+    h[FORWARD] = next;
 }
 
-static uint32_t true_p(const uint32_t *arena, size_t r, const uint32_t *sums) {
-    uint32_t p = get(arena, r, 2);
-    for (size_t k = get(arena, r, 0); k < LINKS; k++) p += sums[k];
-    return p;
+// ---- walks of a whole list
+
+// The sums of the links of a record that is passed.
+INLINE void pass(const uint32_t *x, size_t level, uint32_t *sums) {
+    for (size_t k = level - 1; k > 0; k--) sums[k] = sums[k + 1] + x[ADJUST + k];
 }
 
-static void pass(const uint32_t *arena, size_t r, uint32_t *sums) {
-    size_t level = get(arena, r, 0);
-    for (size_t k = 0; k < level; k++) sums[k] = get(arena, r, 11 + k);
+// m and p change places, and what was p is raised by its sum. True p is small: nothing is carried out of the low half.
+INLINE void swap(uint32_t *x, uint32_t sum) {
+    uint64_t both;
+    memcpy(&both, x + M, sizeof both);
+    both = (both << 32 | both >> 32) + sum;
+    memcpy(x + M, &both, sizeof both);
 }
 
-void lazy_turn(uint32_t *arena, size_t from, size_t to) {
-    uint32_t sums[LINKS] = {0};
-    clear_head(arena, to);
-    pass(arena, from, sums);
-    uint32_t next = get(arena, from, 3);
-    while (next != 0) {
-        size_t r = next;
-        next = get(arena, r, 3);
-        uint32_t p = true_p(arena, r, sums), m = get(arena, r, 1);
-        pass(arena, r, sums);
-        store(arena, r, 1, p);
-        store(arena, r, 2, m);
-        prepend(arena, to, r);
+// Passes a record of level 2 or more, and puts it in front of a list.
+INLINE void rehook(uint32_t *head, uint32_t *x, uint32_t r, size_t level, uint32_t *sums) {
+    size_t k = level - 1;
+    do {
+        sums[k] = sums[k + 1] + x[ADJUST + k];
+        x[FORWARD + k] = head[FORWARD + k];
+        x[ADJUST + k] = 0;
+        head[FORWARD + k] = r;
+    } while (--k > 0);
+}
+
+void lazy_turn(uint32_t *arena, size_t head) {
+    uint32_t *h = record(arena, head), sums[LINKS + 1] = {0};
+    uint32_t r = h[FORWARD], before = 0;
+    clear_head(h);
+    while (r != 0) {
+        uint32_t *x = record(arena, r), level = x[LEVEL], next = x[FORWARD];
+        swap(x, sums[level]);
+        x[FORWARD] = before;
+        before = r;
+        r = next;
+        if (level > 1) rehook(h, x, before, level, sums);
     }
-}
-
-void lazy_copy_head(uint32_t *arena, size_t from, size_t to) {
-    for (size_t j = 0; j < STRIDE; j++) store(arena, to, j, get(arena, from, j));
+    h[FORWARD] = before;
 }
 
 size_t lazy_items(const uint32_t *arena, size_t head, uint32_t *pairs) {
-    uint32_t sums[LINKS] = {0};
+    uint32_t sums[LINKS + 1] = {0}, *to = pairs;
+    const uint32_t *x = arena + STRIDE * head;
+    pass(x, LINKS, sums);
+    while (x[FORWARD] != 0) {
+        x = arena + STRIDE * x[FORWARD];
+        *to++ = x[M];
+        *to++ = x[P] + sums[x[LEVEL]];
+        pass(x, x[LEVEL], sums);
+    }
+    return (size_t)(to - pairs) / 2;
+}
+
+static size_t length(const uint32_t *arena, size_t head) {
     size_t n = 0;
-    pass(arena, head, sums);
-    for (uint32_t r = get(arena, head, 3); r != 0; r = get(arena, r, 3)) {
-        pairs[2 * n] = get(arena, r, 1);
-        pairs[2 * n + 1] = true_p(arena, r, sums);
-        pass(arena, r, sums);
-        n++;
+    for (const uint32_t *x = arena + STRIDE * head; x[FORWARD] != 0; x = arena + STRIDE * x[FORWARD]) n++;
+    return n;
+}
+
+size_t lazy_items_turned(const uint32_t *arena, size_t head, uint32_t *pairs) {
+    size_t n = length(arena, head);
+    uint32_t sums[LINKS + 1] = {0}, *to = pairs + 2 * n;
+    const uint32_t *x = arena + STRIDE * head;
+    pass(x, LINKS, sums);
+    while (x[FORWARD] != 0) {
+        x = arena + STRIDE * x[FORWARD];
+        *--to = x[M];
+        *--to = x[P] + sums[x[LEVEL]];
+        pass(x, x[LEVEL], sums);
     }
     return n;
 }
 
-// ---- merging
+// ---- merging lists that have no link 1
 
-static void search(const uint32_t *arena, size_t head, uint32_t key, size_t *cut) {
-    size_t cur = head, i = LINKS;
-    while (i > 0) {
-        size_t k = i - 1, next = get(arena, cur, 3 + k);
-        if (next != 0 && key <= get(arena, next, 1)) {
-            cur = next;
+// What is left of a list that is merged: its first record, the record's number, and its m. After the last record comes
+// record 0, whose m is 0, below that of every item.
+typedef struct {
+    uint32_t *at, first, m;
+} front;
+
+INLINE front front_at(uint32_t *arena, uint32_t r) {
+    uint32_t *at = record(arena, r);
+    return (front){at, r, at[M]};
+}
+
+// Moves the records in front whose m is larger, one or more, behind a last record, and raises their p. Answers with the
+// last of them.
+INLINE uint32_t *move_flat(uint32_t *arena, front *a, uint32_t *last, uint32_t m, uint32_t p) {
+    last[FORWARD] = a->first;
+    do {
+        last = a->at;
+        last[P] += p;
+        *a = front_at(arena, last[FORWARD]);
+    } while (a->m > m);
+    return last;
+}
+
+// Stored p are true p here.
+static void merge_flat(uint32_t *arena, front a, front b, uint32_t *last) {
+    clear_head(last);
+    while (a.m != 0 && b.m != 0) {
+        if (a.m > b.m) {
+            last = move_flat(arena, &a, last, b.m, b.at[P]);
+        } else if (b.m > a.m) {
+            last = move_flat(arena, &b, last, a.m, a.at[P]);
         } else {
-            cut[k] = cur;
-            i = k;
+            last[FORWARD] = a.first;
+            last = a.at;
+            last[P] += b.at[P];
+            a = front_at(arena, last[FORWARD]);
+            b = front_at(arena, b.at[FORWARD]);
         }
     }
+    last[FORWARD] = 0;
 }
 
-static size_t open_sums(const uint32_t *arena, size_t head, const size_t *cut, uint32_t *sums) {
-    size_t k = 0;
-    while (k < LINKS && cut[k] != head) {
-        sums[k] = get(arena, cut[k], 11 + k);
-        k++;
-    }
-    return k;
+// ---- merging lists that have links above the lowest
+
+// The links of what is left of a list: the first record with each, the m of the first with link 1, and the sums.
+typedef struct {
+    uint32_t m, forward[LINKS + 1], sums[LINKS + 1];
+} links;
+
+INLINE void enter(uint32_t *arena, size_t head, links *x) {
+    memcpy(x->forward, record(arena, head) + FORWARD, LINKS * sizeof *arena);
+    x->forward[LINKS] = 0;
+    memset(x->sums, 0, sizeof x->sums);
+    x->m = record(arena, x->forward[1])[M];
 }
 
-static void raise_chain(uint32_t *arena, size_t first, size_t stop, size_t k, uint32_t v) {
-    for (size_t cur = first; cur != stop; cur = get(arena, cur, 3 + k)) {
-        raise(arena, cur, 2, v);
-        raise(arena, cur, 11 + k, v);
-    }
-}
+INLINE uint32_t first_p(const front *a, const links *x) { return a->at[P] + x->sums[a->at[LEVEL]]; }
 
-static uint32_t next_carry(const uint32_t *arena, size_t head, size_t last, size_t k, uint32_t carry) {
-    return carry + get(arena, head, 11 + k) - get(arena, last, 11 + k);
-}
-
-static void settle(uint32_t *arena, size_t head, const size_t *cut, const size_t *ends, size_t n, uint32_t q) {
-    uint32_t carry = 0;
-    for (size_t k = n; k < LINKS; k++) carry = next_carry(arena, head, ends[k], k, carry);
-    carry += q;
-    size_t stop = get(arena, cut[n - 1], 3 + n - 1);
-    for (size_t i = n; i > 0; i--) {
-        size_t k = i - 1, first = get(arena, head, 3 + k);
-        raise_chain(arena, first, stop, k, carry);
-        carry = next_carry(arena, head, ends[k], k, carry);
-        stop = first;
+// Raises a run without link 1 from its first record on. Answers with its last one. It stands apart from the function
+// that calls it, where gcc has too few registers left for the loop.
+static __attribute__((noinline)) uint32_t *raise_flat(uint32_t *arena, uint32_t *at, uint32_t key, uint32_t v) {
+    for (;;) {
+        at[P] += v;
+        uint32_t *next = record(arena, at[FORWARD]);
+        if (next[M] < key) return at;
+        next[P] += v;
+        at = record(arena, next[FORWARD]);
+        if (at[M] < key) return next;
     }
 }
 
-static void relink(uint32_t *arena, size_t head, const size_t *cut, const uint32_t *sums, size_t *ends, size_t n) {
-    for (size_t k = 0; k < n; k++) {
-        size_t to = cut[k];
-        store(arena, ends[k], 3 + k, get(arena, head, 3 + k));
-        store(arena, head, 3 + k, get(arena, to, 3 + k));
-        store(arena, head, 11 + k, sums[k]);
-        ends[k] = to;
+// Moves link k of a run, whose last record with it is given, to the ends of the list that is made: for each link the
+// word for the next record. The adjust of the given record goes into the sums, and is 0 from then on: what it covers in
+// the run is raised by it too. Answers with what that is raised by in all.
+INLINE uint32_t move_link(uint32_t *at, links *x, uint32_t **ends, size_t k, uint32_t u, uint32_t q) {
+    u += at[ADJUST + k];
+    at[ADJUST + k] = 0;
+    x->sums[k] = u - q;
+    *ends[k] = x->forward[k];
+    x->forward[k] = at[FORWARD + k];
+    ends[k] = at + FORWARD + k;
+    return u;
+}
+
+// A run of one record, which has link 1.
+INLINE void move_one(uint32_t *at, links *x, uint32_t **ends, uint32_t q) {
+    size_t k = at[LEVEL];
+    uint32_t u = q + x->sums[k];
+    at[P] += u;
+    while (--k > 0) u = move_link(at, x, ends, k, u, q);
+}
+
+// Raises the records before the first with the next link, and goes on to that one.
+INLINE uint32_t *climb(uint32_t *arena, uint32_t *at, const uint32_t *stop, size_t k, uint32_t v) {
+    while (at != stop) {
+        at[P] += v;
+        if (k > 0) at[ADJUST + k] += v;
+        at = record(arena, at[FORWARD + k]);
+    }
+    return at;
+}
+
+// Goes by link k to the last record of the run that has it, and raises what it meets.
+INLINE uint32_t *descend(uint32_t *arena, uint32_t *at, size_t k, uint32_t key, uint32_t u) {
+    for (;;) {
+        uint32_t *next = record(arena, at[FORWARD + k]);
+        if (next[M] < key) return at;
+        if (k > 0) at[ADJUST + k] += u;
+        at = next;
+        at[P] += u;
     }
 }
 
-static void advance(uint32_t *arena, size_t head, uint32_t key, uint32_t q, size_t *ends) {
-    size_t cut[LINKS] = {0};
-    uint32_t sums[LINKS] = {0};
-    search(arena, head, key, cut);
-    size_t n = open_sums(arena, head, cut, sums);
-    settle(arena, head, cut, ends, n, q);
-    relink(arena, head, cut, sums, ends, n);
-}
-
-static uint32_t first_p(const uint32_t *arena, size_t head, size_t r) {
-    uint32_t p = get(arena, r, 2);
-    for (size_t k = get(arena, r, 0); k < LINKS; k++) p += get(arena, head, 11 + k);
-    return p;
-}
-
-static void drop_first(uint32_t *arena, size_t head) {
-    size_t r = get(arena, head, 3), level = get(arena, r, 0);
-    for (size_t k = 0; k < level; k++) {
-        store(arena, head, 3 + k, get(arena, r, 3 + k));
-        store(arena, head, 11 + k, get(arena, r, 11 + k));
+// A run of more records, one of which has link 1: up link by link to the highest that the run has, and down again.
+// Answers with its last record.
+INLINE uint32_t *move_stairs(uint32_t *arena, uint32_t *at, links *x, uint32_t **ends, uint32_t key, uint32_t q) {
+    size_t k = 1;
+    uint32_t u;
+    at = climb(arena, at, record(arena, x->forward[1]), 0, q + x->sums[1]);
+    for (;; k++) {
+        uint32_t *next = record(arena, x->forward[k + 1]);
+        u = q + x->sums[k + 1];
+        if (next[M] < key) break;
+        at = climb(arena, at, next, k, u);
     }
+    at[P] += u;
+    for (; k > 0; k--) {
+        at = descend(arena, at, k, key, u);
+        u = move_link(at, x, ends, k, u, q);
+    }
+    return descend(arena, at, 0, key, u);
 }
 
-static void older_step(uint32_t *arena, size_t older, size_t newer, size_t *ends) {
-    size_t s = get(arena, newer, 3);
-    uint32_t key = get(arena, s, 1);
-    advance(arena, older, key, first_p(arena, newer, s), ends);
-    if (get(arena, ends[0], 1) == key) drop_first(arena, newer);
+static uint32_t *move_linked(uint32_t *arena, uint32_t *at, links *x, uint32_t **ends, uint32_t key, uint32_t q) {
+    if (record(arena, at[FORWARD])[M] < key) {
+        move_one(at, x, ends, q);
+    } else {
+        at = move_stairs(arena, at, x, ends, key, q);
+    }
+    x->m = record(arena, x->forward[1])[M];
+    return at;
 }
 
-static void newer_step(uint32_t *arena, size_t older, size_t newer, size_t *ends) {
-    size_t r = get(arena, older, 3);
-    advance(arena, newer, get(arena, r, 1) + 1, first_p(arena, older, r), ends);
+// Moves the records in front whose m is at least the key, one or more, behind a last record, and raises each true p by
+// q. Answers with the last of them.
+INLINE uint32_t *move_run(uint32_t *arena, front *a, links *x, uint32_t *last, uint32_t **ends, uint32_t key,
+                          uint32_t q) {
+    last[FORWARD] = a->first;
+    if (x->m < key) {
+        last = raise_flat(arena, a->at, key, q + x->sums[1]);
+    } else {
+        last = move_linked(arena, a->at, x, ends, key, q);
+    }
+    *a = front_at(arena, last[FORWARD]);
+    return last;
 }
 
-static bool both_wait(const uint32_t *arena, size_t older, size_t newer) {
-    return get(arena, older, 3) != 0 && get(arena, newer, 3) != 0;
+// The first record leaves a list.
+INLINE void drop_first(uint32_t *arena, front *a, links *x) {
+    size_t k = a->at[LEVEL];
+    if (k > 1) {
+        while (--k > 0) {
+            x->sums[k] = x->sums[k + 1] + a->at[ADJUST + k];
+            x->forward[k] = a->at[FORWARD + k];
+        }
+        x->m = record(arena, x->forward[1])[M];
+    }
+    *a = front_at(arena, a->at[FORWARD]);
+}
+
+static void merge_linked(uint32_t *arena, size_t older, size_t newer, uint32_t *last) {
+    links x, y;
+    uint32_t *ends[LINKS];
+    enter(arena, older, &x);
+    enter(arena, newer, &y);
+    front a = front_at(arena, x.forward[0]), b = front_at(arena, y.forward[0]);
+    clear_head(last);
+    for (size_t k = 1; k < LINKS; k++) ends[k] = last + FORWARD + k;
+    while (a.m != 0 && b.m != 0) {
+        if (b.m <= a.m) {
+            last = move_run(arena, &a, &x, last, ends, b.m, first_p(&b, &y));
+            if (last[M] == b.m) drop_first(arena, &b, &y);
+        } else {
+            last = move_run(arena, &b, &y, last, ends, a.m + 1, first_p(&a, &x));
+        }
+    }
+    last[FORWARD] = 0;
+    for (size_t k = 1; k < LINKS; k++) *ends[k] = 0;
 }
 
 void lazy_merge(uint32_t *arena, size_t older, size_t newer, size_t result) {
-    clear_head(arena, result);
-    size_t ends[LINKS];
-    for (size_t k = 0; k < LINKS; k++) ends[k] = result;
-    while (both_wait(arena, older, newer)) {
-        if (get(arena, get(arena, newer, 3), 1) <= get(arena, get(arena, older, 3), 1)) {
-            older_step(arena, older, newer, ends);
-        } else {
-            newer_step(arena, older, newer, ends);
-        }
+    const uint32_t *a = record(arena, older), *b = record(arena, newer);
+    uint32_t *head = record(arena, result);
+    arena[M] = 0;
+    if (a[FORWARD + 1] == 0 && b[FORWARD + 1] == 0) {
+        merge_flat(arena, front_at(arena, a[FORWARD]), front_at(arena, b[FORWARD]), head);
+    } else {
+        merge_linked(arena, older, newer, head);
     }
-    for (size_t k = 0; k < LINKS; k++) store(arena, ends[k], 3 + k, 0);
 }

@@ -1,5 +1,5 @@
-// The twin in C of the crates arena and merging: lazy lists of 19-word records, with the same steps as the Rattle code
-// and none of its proofs. It is there to be measured beside it.
+// Lazy lists in C, written for speed, to be measured beside the Rattle code: the records and links of document 01 in
+// the same arena, so that a list made here is one that the reading call takes.
 #ifndef LAZY_H
 #define LAZY_H
 
@@ -7,21 +7,26 @@
 #include <stddef.h>
 #include <stdint.h>
 
-enum { STRIDE = 19, LINKS = 8, WORDS = 16384 };
+// The words of a record.
+enum { LEVEL = 0, M = 1, P = 2, FORWARD = 3, ADJUST = 11, STRIDE = 19 };
 
-// Makes the list of a head of so many sizes, four bytes a size, in the records from first on.
-void lazy_load(uint32_t *arena, size_t head, size_t first, const uint8_t *sizes, const uint8_t *levels, size_t count);
+enum { LINKS = 8, WORDS = 16384 };
 
-// Turns the list of one head into that of another.
-void lazy_turn(uint32_t *arena, size_t from, size_t to);
+// Makes the list of a head of a gauge's sizes, four bytes a size, in the records from first on: by falling height, or,
+// where it is to run across, by falling width.
+void lazy_load(uint32_t *arena, size_t head, size_t first, const uint8_t *sizes, const uint8_t *levels, size_t count,
+               bool across);
 
-// Makes the list of a third head the merge of the lists of two heads.
+// Turns the list of a head: m and p change places and the order reverses.
+void lazy_turn(uint32_t *arena, size_t head);
+
+// Makes the list of a result head the merge of the lists of two heads. The result may be one of the two.
 void lazy_merge(uint32_t *arena, size_t older, size_t newer, size_t result);
-
-// Copies a head, and with it its list, to another record.
-void lazy_copy_head(uint32_t *arena, size_t from, size_t to);
 
 // Writes m and true p of each item of a head's list, in the order of the walk, and returns how many items there are.
 size_t lazy_items(const uint32_t *arena, size_t head, uint32_t *pairs);
+
+// Writes true p and m of each item, from the last to the first: the items of the list turned.
+size_t lazy_items_turned(const uint32_t *arena, size_t head, uint32_t *pairs);
 
 #endif

@@ -4,91 +4,84 @@
 #include "lazy.h"
 #include "plain.h"
 
-// ---- lazy lists, with the steps of crates/parts and crates/shapes
+// ---- lazy lists: a gauge's list is made where it is joined, so that it need not be turned
 
-enum { FIRST = 513, OLDER_TURNED = 577, NEWER_TURNED = 578 };
+enum { HEADS = 513 };
 
-static size_t facing(uint32_t *arena, size_t head, size_t spare, bool turned) {
-    if (!turned) return head;
-    lazy_turn(arena, head, spare);
-    return spare;
+// A part on the stack. Where its entry begins and its first size are asked of gauges alone.
+typedef struct {
+    size_t at, size;
+    uint8_t kind;
+} pending;
+
+// Makes the list of a part under a head run the way it is joined.
+static void lazy_face(bytes file, bytes levels, uint32_t *arena, size_t head, const pending *part, bool across) {
+    if (part->kind == GAUGE) {
+        const uint8_t *entry = file.bytes + part->at;
+        lazy_load(arena, head, part->size + 1, entry + 2, levels.bytes + part->size, entry[1], across);
+    } else if (across) {
+        lazy_turn(arena, head);
+    }
 }
 
-static void lazy_join(uint32_t *arena, size_t place, bool older_turned, bool newer_turned) {
-    size_t older = facing(arena, FIRST + place, OLDER_TURNED, older_turned);
-    size_t newer = facing(arena, FIRST + place + 1, NEWER_TURNED, newer_turned);
-    lazy_merge(arena, older, newer, 0);
-    lazy_copy_head(arena, 0, FIRST + place);
-}
-
+// Leaves the face's list under head 0. Answers with the kind of its last entry.
 static uint8_t lazy_build(bytes file, bytes levels, uint32_t *arena) {
-    uint8_t kinds[64];
+    pending stack[64];
     size_t at = 7, parts = 0, size = 0;
     while (at < file.length) {
         uint8_t kind = file.bytes[at];
         if (kind == GAUGE) {
             size_t count = file.bytes[at + 1];
-            lazy_load(arena, FIRST + parts, size + 1, file.bytes + at + 2, levels.bytes + size, count);
-            kinds[parts++] = kind;
+            stack[parts++] = (pending){at, size, kind};
             size += count;
             at += 2 + 4 * count;
         } else {
-            size_t older = parts - 2;
-            lazy_join(arena, older, runs_across(kinds[older], kind), runs_across(kinds[older + 1], kind));
-            kinds[older] = kind;
-            parts--;
+            pending *newer = &stack[--parts], *older = newer - 1;
+            size_t head = HEADS + parts;
+            lazy_face(file, levels, arena, head - 1, older, runs_across(older->kind, kind));
+            lazy_face(file, levels, arena, head, newer, runs_across(newer->kind, kind));
             at++;
+            lazy_merge(arena, head - 1, head, at == file.length ? 0 : head - 1);
+            older->kind = kind;
         }
     }
-    lazy_copy_head(arena, FIRST, 0);
-    return kinds[0];
+    if (stack[0].kind == GAUGE) lazy_face(file, levels, arena, 0, &stack[0], false);
+    return stack[0].kind;
 }
-
-// Items by falling m as items by falling height, where m is the width.
-static void turn_pairs(uint32_t *pairs, size_t count) { plain_turn((item *)pairs, count); }
 
 size_t lazy_list(bytes file, bytes levels, words arena, words scratch, words output) {
     if (list_number(file, levels, arena, scratch, output) != 0) return 0;
     uint8_t kind = lazy_build(file, levels, arena.words);
-    size_t count = lazy_items(arena.words, 0, output.words);
-    if (kind == JOIN_STACKED) turn_pairs(output.words, count);
-    return count;
+    return (kind == JOIN_STACKED ? lazy_items_turned : lazy_items)(arena.words, 0, output.words);
 }
 
-// ---- plain arrays: each list stands behind all that were made before it, and is turned in its place
+// ---- plain arrays: each list stands behind all that were made before it
 
 typedef struct {
-    item *items;
+    uint32_t *items;
     size_t length;
     uint8_t kind;
 } part;
 
-static item room[512 + 63 * 449];
+static uint32_t room[512 + 63 * 449];
 
-static void plain_join(part *older, const part *newer, uint8_t join, item *to) {
-    if (runs_across(older->kind, join)) plain_turn(older->items, older->length);
-    if (runs_across(newer->kind, join)) plain_turn(newer->items, newer->length);
-    older->length = plain_merge(older->items, older->length, newer->items, newer->length, to);
+static void plain_join(part *older, const part *newer, uint8_t join, uint32_t *to) {
+    older->length = plain_merge(older->items, older->length, runs_across(older->kind, join), newer->items,
+                                newer->length, runs_across(newer->kind, join), to);
     older->items = to;
     older->kind = join;
-}
-
-static size_t plain_load(const uint8_t *sizes, size_t count, item *to) {
-    for (size_t i = 0; i < count; i++, sizes += 4) {
-        to[i] = (item){256u * sizes[0] + sizes[1], 256u * sizes[2] + sizes[3]};
-    }
-    return count;
 }
 
 static part plain_build(bytes file) {
     part stack[64];
     size_t at = 7, parts = 0;
-    item *free = room;
+    uint32_t *free = room;
     while (at < file.length) {
         uint8_t kind = file.bytes[at++];
         if (kind == GAUGE) {
             size_t count = file.bytes[at++];
-            stack[parts++] = (part){free, plain_load(file.bytes + at, count, free), kind};
+            plain_load(file.bytes + at, count, free);
+            stack[parts++] = (part){free, count, kind};
             at += 4 * count;
         } else {
             parts--;
@@ -99,13 +92,19 @@ static part plain_build(bytes file) {
     return stack[0];
 }
 
+// Height and width of each item: where m is the width, from the last to the first.
+static void plain_write(const part *root, uint32_t *pairs) {
+    bool across = root->kind == JOIN_STACKED;
+    for (size_t i = 0; i < root->length; i++) {
+        uint32_t item = across ? swapped(root->items[root->length - 1 - i]) : root->items[i];
+        pairs[2 * i] = item >> 16;
+        pairs[2 * i + 1] = item & 0xFFFF;
+    }
+}
+
 size_t plain_list(bytes file, bytes levels, words arena, words scratch, words output) {
     if (list_number(file, levels, arena, scratch, output) != 0) return 0;
     part root = plain_build(file);
-    if (root.kind == JOIN_STACKED) plain_turn(root.items, root.length);
-    for (size_t i = 0; i < root.length; i++) {
-        output.words[2 * i] = root.items[i].m;
-        output.words[2 * i + 1] = root.items[i].p;
-    }
+    plain_write(&root, output.words);
     return root.length;
 }

@@ -1,4 +1,4 @@
-// The list call in C twice: with lazy lists, as the Rattle code has it, and with plain arrays.
+// The list call in C twice, with lazy lists and with plain arrays.
 #ifndef LISTS_H
 #define LISTS_H
 

@@ -21,4 +21,7 @@ uint32_t rattle_fit(const uint8_t *file, size_t file_bytes, const uint8_t *level
 uint8_t rattle_build(const uint8_t *file, size_t file_bytes, const uint8_t *levels, size_t level_bytes, uint32_t *arena,
                      size_t arena_words);
 
+// Answers with p of the item at a place, 0 where a check fails.
+uint32_t rattle_read(const uint32_t *arena, size_t arena_words, uint32_t place);
+
 #endif

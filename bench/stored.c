@@ -1,7 +1,8 @@
-// See stored.h. The scratch has a table of the parts in the order of their entries, and after it their lists: an item is
-// m in the high half and p in the low half of a word, and a list runs by falling m. m is the width in a stacked part's
-// list, and the height in all others.
+// See stored.h. The scratch has a table of the parts in the order of their entries, and after it their lists, as plain
+// arrays. m is the width in a stacked part's list, and the height in all others.
 #include "stored.h"
+
+#include "plain.h"
 
 enum { PARTS = 127 };
 
@@ -11,59 +12,7 @@ typedef struct {
 
 static inline part *table_of(uint32_t *scratch) { return (part *)scratch; }
 
-// An item read the other way: m and p change places.
-static inline uint32_t swapped(uint32_t w) { return w << 16 | w >> 16; }
-
-// The item at a place, as its list runs or turned.
-static inline uint32_t item(const uint32_t *at, bool across) { return across ? swapped(*at) : *at; }
-
 // ---- the lists
-
-// Stockmeyer's merge. It is made once for each way in which the two lists are read: a turned list from its end down.
-static inline __attribute__((always_inline)) size_t merge(const uint32_t *a, size_t length_a, bool across_a,
-                                                          const uint32_t *b, size_t length_b, bool across_b,
-                                                          uint32_t *to) {
-    const ptrdiff_t step_a = across_a ? -1 : 1, step_b = across_b ? -1 : 1;
-    const uint32_t *end_a = across_a ? a - 1 : a + length_a, *end_b = across_b ? b - 1 : b + length_b;
-    if (across_a) a += length_a - 1;
-    if (across_b) b += length_b - 1;
-    uint32_t *start = to, x = item(a, across_a), y = item(b, across_b);
-    for (;;) {
-        if (x >> 16 > y >> 16) {
-            *to++ = x + (y & 0xFFFF);
-            if ((a += step_a) == end_a) break;
-            x = item(a, across_a);
-        } else if (x >> 16 < y >> 16) {
-            *to++ = y + (x & 0xFFFF);
-            if ((b += step_b) == end_b) break;
-            y = item(b, across_b);
-        } else {
-            *to++ = x + (y & 0xFFFF);
-            a += step_a;
-            b += step_b;
-            if (a == end_a || b == end_b) break;
-            x = item(a, across_a);
-            y = item(b, across_b);
-        }
-    }
-    return to - start;
-}
-
-static size_t merge_lists(const uint32_t *a, size_t length_a, bool across_a, const uint32_t *b, size_t length_b,
-                          bool across_b, uint32_t *to) {
-    if (across_a) {
-        if (across_b) return merge(a, length_a, true, b, length_b, true, to);
-        return merge(a, length_a, true, b, length_b, false, to);
-    }
-    if (across_b) return merge(a, length_a, false, b, length_b, true, to);
-    return merge(a, length_a, false, b, length_b, false, to);
-}
-
-static void store_sizes(const uint8_t *sizes, size_t count, uint32_t *to) {
-    for (size_t i = 0; i < count; i++, sizes += 4) {
-        to[i] = (uint32_t)sizes[0] << 24 | (uint32_t)sizes[1] << 16 | (uint32_t)sizes[2] << 8 | sizes[3];
-    }
-}
 
 // Stores the lists of all parts. Answers the number of the whole face.
 static size_t store_lists(bytes file, uint32_t *scratch) {
@@ -74,12 +23,12 @@ static size_t store_lists(bytes file, uint32_t *scratch) {
         uint8_t kind = file.bytes[at++];
         if (kind == GAUGE) {
             uint32_t count = file.bytes[at++];
-            store_sizes(file.bytes + at, count, scratch + to);
+            plain_load(file.bytes + at, count, scratch + to);
             table[p] = (part){to, count, kind, 1};
             at += 4 * count;
         } else {
             const part *newer = &table[p - 1], *older = &table[p - 2 * newer->gauges];
-            uint32_t count = merge_lists(scratch + older->from, older->count, runs_across(older->kind, kind),
+            uint32_t count = plain_merge(scratch + older->from, older->count, runs_across(older->kind, kind),
                                          scratch + newer->from, newer->count, runs_across(newer->kind, kind),
                                          scratch + to);
             table[p] = (part){to, count, kind, older->gauges + newer->gauges};

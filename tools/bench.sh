@@ -2,20 +2,31 @@
 # Builds the benchmarks, counts the instructions of the proved calls beside those of C programs, and prints the tables
 # of docs/BENCHMARKS.md.
 #
-#     bash tools/bench.sh
+#     bash tools/bench.sh            prints them, and last the lines that the page has otherwise
+#     bash tools/bench.sh --write    puts them into the page
 #
-# It needs x86-64, the Rattle kit (rt), gcc, valgrind and python3. Where the crates are proved (`rt check`) it takes a
-# minute. A first run on a fresh clone also proves them: four minutes in all on two cores.
+# It needs x86-64, the Rattle kit (rt), gcc, valgrind and python3. Where the crates are proved (`rt check`) it takes
+# under three minutes on two cores. A first run on a fresh clone also proves them.
 #
-# bench/rattle.rt.txt makes a static library of the proved calls, and the C programs of bench/ link it. callgrind counts
-# what is executed inside each function, so the counts are the same on every run.
+# bench/rattle.rt.txt makes a static library of the proved calls, and the C programs of bench/ link it, once compiled by
+# gcc and once by the kit's clang. callgrind counts what is executed inside each function, so the counts are the same on
+# every run.
 set -euo pipefail
 cd "$(dirname "$0")/.."
 SECONDS=0
-faces='row-of-64 row-of-64-back row-of-64-balanced lopsided-64 balanced-64 mixed-64 alternating-64'
-lengths='64 76 80 128 256 448'
+faces='row-of-64 row-of-64-back row-of-64-balanced pile-of-64 pile-of-64-balanced lopsided-64 lopsided-64-back
+    balanced-64 balanced-64-stacked mixed-64 alternating-64 alternating-64-back alternating-64-many'
+families='lopsided balanced alternating'
+gauges='8 16 32 64'
+tables='own uncut ones eights scattered'
+lengths='1 16 64 128 256 448'
 ways='newer-gap newer-tie older-gap older-tie'
+read_face=row-of-64
 page=docs/BENCHMARKS.md
+kit=$(dirname "$(dirname "$(readlink -f "$(command -v rt)")")")
+clang=$kit/on/x86_64/toolchain/bin/clang
+by_gcc="gcc $(gcc -dumpversion | cut -d. -f1)"
+by_clang="clang $("$clang" -dumpversion | cut -d. -f1)"
 work=$(mktemp -d)
 trap 'rm -rf "$work"' EXIT
 
@@ -29,61 +40,82 @@ quietly() { # COMMAND WORD...
 # Proves the crates, and in a temporary folder, beside copies of them, the crate of the exported calls. What target/ has
 # proved is not proved again.
 make_library() {
-    quietly rt check fit
+    quietly rt check fit faces
     mkdir -p "$work/target"
     cp -R crates crates.txt "$work"
     cp -R target/rlib target/stamp "$work/target"
     mkdir -p "$work/crates/rattle_calls/src"
     cp bench/rattle.rt.txt "$work/crates/rattle_calls/src/lib.rt"
-    echo 'rattle_calls: slicing facefile arena merging parts shapes fit' >>"$work/crates.txt"
+    echo 'rattle_calls: slicing facefile arena maxplus merging parts shapes fit' >>"$work/crates.txt"
     (cd "$work" && quietly rt staticlib rattle_calls)
 }
 
-# Compiles a program of files of bench/. With -z now the dynamic linker's work is done before the program starts.
-compile() { # PROGRAM FILE...
-    (cd bench && gcc -O3 -Wall -Wextra -Wl,-z,now -o "$work/$1" "${@:2}" "$work/target/staticlib/librattle_calls.a")
+# The kit's clang has no headers of its own: it takes those of gcc.
+run_compiler() { # COMPILER WORD...
+    if [ "$1" = gcc ]; then
+        gcc -O3 -Wall -Wextra "${@:2}"
+    else
+        "$clang" -O3 -Wall -Wextra -isystem "$(gcc -print-file-name=include)" "${@:2}"
+    fi
 }
 
-# Writes the levels of each face: document 01's own, and uncut.
-make_levels() {
-    python3 -B - "$work" $faces <<'PYTHON'
-import pathlib
-import sys
+# Compiles a program of files of bench/ by both compilers. gcc links it: with -z now the dynamic linker's work is done
+# before the program starts.
+compile() { # PROGRAM FILE...
+    for compiler in gcc clang; do
+        mkdir -p "$work/$1-$compiler.objects"
+        for file in "${@:2}"; do
+            run_compiler $compiler -c -o "$work/$1-$compiler.objects/$file.o" "bench/$file"
+        done
+        gcc -Wl,-z,now -o "$work/$1-$compiler" "$work/$1-$compiler.objects"/*.o \
+            "$work/target/staticlib/librattle_calls.a"
+    done
+}
 
-sys.path.insert(0, "tools")
-import face_model
-
-work, *faces = sys.argv[1:]
-for name in faces:
-    file = pathlib.Path(f"crates/list_cases/data/{name}.fce").read_bytes()
-    sizes = face_model.read(file).size_count()
-    own = face_model.fill_levels(file, sizes)[1]
-    uncut = [face_model.uncut_level(size) for size in range(1, sizes + 1)]
-    pathlib.Path(work, f"{name}.own").write_bytes(bytes(own))
-    pathlib.Path(work, f"{name}.uncut").write_bytes(bytes(uncut))
-PYTHON
+# The names of the faces of the growing families.
+growing() {
+    for family in $families; do
+        for g in $gauges; do echo "$family-of-$g"; done
+    done
 }
 
 # ---- counting
 
-# Runs a program under callgrind. NAME.printed is what it prints, NAME.counts the instructions inside each function.
-profile() { # NAME PROGRAM WORD...
-    quietly valgrind --tool=callgrind --log-file=/dev/null --callgrind-out-file="$work/profile" "$work/$2" "${@:3}"
-    mv "$work/said" "$work/$1.printed"
+# Runs a program under callgrind, in an empty environment. NAME.counts has the instructions inside each function.
+count() { # NAME PROGRAM WORD...
+    env -i valgrind --tool=callgrind --log-file=/dev/null --callgrind-out-file="$work/profile" "${@:2}"
     callgrind_annotate --inclusive=yes --threshold=100 "$work/profile" >"$work/$1.counts"
 }
 
-profile_all() {
+# Counts a program by both compilers: NAME-gcc and NAME-clang. NAME.printed is what it prints.
+profile() { # NAME PROGRAM WORD...
+    for compiler in gcc clang; do
+        quietly count "$1-$compiler" "$work/$2-$compiler" "${@:3}"
+        mv "$work/said" "$work/$1.printed"
+    done
+}
+
+profile_merges() {
     for k in $lengths; do
         for side in newer older; do
             for place in gap tie; do profile "$k-$side-$place" merge $side $place "$k"; done
         done
     done
-    for face in $faces; do
-        for levels in own uncut; do
-            profile "$face-$levels" calls "crates/list_cases/data/$face.fce" "$work/$face.$levels"
-        done
-    done
+}
+
+profile_calls() { # TABLE FACE...
+    for face in "${@:2}"; do profile "$face-$1" calls "$work/$face.fce" "$work/$face.$1"; done
+}
+
+profile_process() {
+    count process target/bin/faces <"$work/$read_face.fce" >"$work/process.printed"
+}
+
+profile_all() {
+    profile_merges
+    for table in $tables; do profile_calls $table $faces; done
+    for table in own scattered; do profile_calls $table $(growing); done
+    profile_process
 }
 
 # Prints the instructions inside a function, with those of the functions that it calls.
@@ -91,93 +123,162 @@ inside() { # FUNCTION NAME
     sed -n "s/^ *\([0-9,]*\) (.*:$1 \[.*/\1/p" "$work/$2.counts" | tr -d ,
 }
 
+# The same for an exported call, which is one and the same in the programs of both compilers.
+rattle() { # FUNCTION NAME
+    found=$(inside "$1" "$2-gcc")
+    [ "$found" = "$(inside "$1" "$2-clang")" ] || { echo "$1 on $2 takes two counts" >&2; exit 1; }
+    echo "$found"
+}
+
+# ---- the tables
+
 # Prints a number worked out by awk.
 worked_out() { # FORMAT EXPRESSION
     awk "BEGIN { printf \"$1\", $2 }"
 }
 
-# ---- the tables
+row() { # CELL...
+    printf '|'
+    printf ' %s |' "$@"
+    echo
+}
+
+header() { # NAME...
+    row "$@"
+    printf '|'
+    for _ in "$@"; do printf -- '---|'; done
+    echo
+}
+
+# The names of the columns of a count of Rattle and of two of C, and of the first by each of the others.
+c_names=("C, $by_gcc" "C, $by_clang" "Rattle / C, $by_gcc" "Rattle / C, $by_clang")
+
+# Prints the cells of such columns.
+beside_c() { # RATTLE GCC CLANG
+    echo "$1 | $2 | $3 | $(worked_out %.2f "$1 / $2") | $(worked_out %.2f "$1 / $3")"
+}
 
 # Prints the mean over some ways to merge.
-mean() { # FUNCTION K WAY...
+mean() { # FUNCTION COMPILER K WAY...
     sum=0 merges=0
-    for way in "${@:3}"; do
-        sum=$((sum + $(inside "$1" "$2-$way")))
-        merges=$((merges + $(cat "$work/$2-$way.printed")))
+    for way in "${@:4}"; do
+        sum=$((sum + $(inside "$1" "$3-$way-$2")))
+        merges=$((merges + $(cat "$work/$3-$way.printed")))
     done
     worked_out %.0f "$sum / $merges"
 }
 
 merge_table() {
-    echo '| k | lazy, Rattle | lazy, C | plain array, C | lazy, Rattle, per log2 k |'
-    echo '|---|---|---|---|---|'
+    header k Rattle "${c_names[@]}" "plain array, C, $by_gcc" "plain array, C, $by_clang"
     for k in $lengths; do
-        rattle=$(mean rattle_merge "$k" $ways)
-        lazy=$(mean lazy_merge "$k" $ways)
-        plain=$(mean plain_merge "$k" $ways)
-        echo "| $k | $rattle | $lazy | $plain | $(worked_out %.1f "$rattle / (log($k) / log(2))") |"
+        row "$k" "$(beside_c "$(mean rattle_merge gcc "$k" $ways)" "$(mean lazy_merge gcc "$k" $ways)" \
+            "$(mean lazy_merge clang "$k" $ways)")" \
+            "$(mean plain_merge gcc "$k" $ways)" "$(mean plain_merge clang "$k" $ways)"
     done
 }
 
 ways_table() {
-    echo '| k | newer, in a gap | newer, on a record | older, in a gap | older, on a record |'
-    echo '|---|---|---|---|---|'
+    header k 'newer, in a gap' 'newer, on a record' 'older, in a gap' 'older, on a record'
     for k in $lengths; do
-        row="| $k |"
-        for way in $ways; do row="$row $(mean rattle_merge "$k" $way) |"; done
-        echo "$row"
+        cells=()
+        for way in $ways; do cells+=("$(mean rattle_merge gcc "$k" $way)"); done
+        row "$k" "${cells[@]}"
     done
 }
 
-list_table() { # LEVELS
-    echo '| face | items | lazy, Rattle | lazy, C | plain arrays, C | Rattle by C |'
-    echo '|---|---|---|---|---|---|'
+# Prints the cells of the list call by lazy lists.
+list_cells() { # NAME
+    beside_c "$(rattle rattle_list "$1")" "$(inside lazy_list "$1-gcc")" "$(inside lazy_list "$1-clang")"
+}
+
+plain_cells() { # NAME
+    echo "$(inside plain_list "$1-gcc") | $(inside plain_list "$1-clang")"
+}
+
+list_table() {
+    header face items Rattle "${c_names[@]}" "plain arrays, C, $by_gcc" "plain arrays, C, $by_clang"
     for face in $faces; do
-        read -r items _ <"$work/$face-$1.printed"
-        rattle=$(inside rattle_list "$face-$1")
-        lazy=$(inside lazy_list "$face-$1")
-        plain=$(inside plain_list "$face-$1")
-        echo "| $face | $items | $rattle | $lazy | $plain | $(worked_out %.2f "$rattle / $lazy") |"
+        read -r items _ <"$work/$face-own.printed"
+        row $face "$items" "$(list_cells $face-own)" "$(plain_cells $face-own)"
+    done
+}
+
+levels_table() { # TABLE
+    header face Rattle "${c_names[@]}"
+    for face in $faces; do row $face "$(list_cells "$face-$1")"; done
+}
+
+# The last column is in instructions for each n log2 n, n being the number of sizes.
+growth_table() { # TABLE
+    header family gauges items Rattle "${c_names[@]}" "plain arrays, C, $by_gcc" "plain arrays, C, $by_clang" \
+        'Rattle per n log2 n'
+    for family in $families; do
+        for g in $gauges; do
+            name=$family-of-$g-$1
+            n=$((8 * g))
+            read -r items _ <"$work/$name.printed"
+            row $family "$g" "$items" "$(list_cells $name)" "$(plain_cells $name)" \
+                "$(worked_out %.1f "$(rattle rattle_list $name) / ($n * log($n) / log(2))")"
+        done
     done
 }
 
 fit_table() {
-    echo '| face | items | area | fit, Rattle | list, Rattle | build, Rattle | own part, Rattle | own part, C | Rattle by C |'
-    echo '|---|---|---|---|---|---|---|---|---|'
+    header face items area 'fit, Rattle' 'build, Rattle' 'own part, Rattle' "${c_names[@]}"
     for face in $faces; do
         read -r items area _ <"$work/$face-own.printed"
-        fit=$(inside rattle_fit "$face-own")
-        list=$(inside rattle_list "$face-own")
-        build=$(inside rattle_build "$face-own")
-        stored=$(inside stored_fit "$face-own")
-        own=$((fit - build))
-        ratio=$(worked_out %.2f "$own / $stored")
-        echo "| $face | $items | $area | $fit | $list | $build | $own | $stored | $ratio |"
+        fit=$(rattle rattle_fit $face-own)
+        build=$(rattle rattle_build $face-own)
+        row $face "$items" "$area" "$fit" "$build" "$(beside_c $((fit - build)) \
+            "$(inside stored_fit $face-own-gcc)" "$(inside stored_fit $face-own-clang)")"
     done
+}
+
+# Each program makes the call twice.
+reading_table() {
+    header levels Rattle "${c_names[@]}"
+    for table in $tables; do
+        name=$read_face-$table
+        row $table "$(beside_c $(($(rattle rattle_read $name) / 2)) $(($(inside arena_read $name-gcc) / 2)) \
+            $(($(inside arena_read $name-clang) / 2)))"
+    done
+}
+
+process_table() {
+    header face 'bytes printed' 'inside main' 'whole process'
+    whole=$(sed -n 's/^ *\([0-9,]*\) .*PROGRAM TOTALS/\1/p' "$work/process.counts" | tr -d ,)
+    row $read_face "$(wc -c <"$work/process.printed")" "$(inside main process)" "$whole"
 }
 
 stack_table() {
-    echo '| face | list, Rattle | fit, Rattle |'
-    echo '|---|---|---|'
+    header face 'list, Rattle' 'fit, Rattle'
     for face in $faces; do
         read -r _ _ list fit <"$work/$face-own.printed"
-        echo "| $face | $list | $fit |"
+        row $face "$list" "$fit"
     done
 }
 
-tables() {
-    printf '## One merge\n\n'
-    merge_table
-    printf '\n%s\n\n' 'Lazy, Rattle, by where the item is:'
-    ways_table
-    printf '\n## The list call\n\n%s\n\n' "Under document 01's own levels:"
-    list_table own
-    printf '\n%s\n\n' 'Under uncut levels, one in four:'
-    list_table uncut
-    printf '\n## The fit call\n\n'
-    fit_table
-    printf '\n## Stack\n\n'
-    stack_table
+# Prints a heading or a line before a table, and the table.
+with() { # LINE TABLE WORD...
+    printf '%s\n\n' "$1"
+    "${@:2}"
+    echo
+}
+
+print_all() {
+    with '## One merge' merge_table
+    with 'Rattle, by where the item is:' ways_table
+    with '## The list call' list_table
+    with 'Under uncut levels, one in four:' levels_table uncut
+    with 'Under levels that are all 1:' levels_table ones
+    with 'Under levels that are all 8:' levels_table eights
+    with 'Under scattered levels:' levels_table scattered
+    with '## Growth' growth_table own
+    with 'Under scattered levels, by gauges:' growth_table scattered
+    with '## The fit call' fit_table
+    with '## The reading call' reading_table
+    with '## The program faces' process_table
+    with '## Stack' stack_table
 }
 
 # ---- all of it
@@ -185,12 +286,12 @@ tables() {
 echo 'Proving the calls and building the programs.' >&2
 make_library
 compile merge merge.c lazy.c plain.c
-compile calls calls.c lists.c lazy.c plain.c stored.c face.c
-make_levels
+compile calls calls.c lists.c lazy.c plain.c reading.c stored.c face.c
+python3 -B tools/make_bench_faces.py "$work" $faces $(growing)
 profile_all
-tables | tee "$work/tables"
+print_all | tee "$work/tables"
+if [ "${1:-}" = --write ]; then python3 -B tools/put_tables.py "$page" "$work/tables"; fi
 
-echo
 grep -Fxvf "$page" "$work/tables" >"$work/other" || true
 if [ -s "$work/other" ]; then
     echo "$page has these lines otherwise:"
