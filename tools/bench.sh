@@ -83,8 +83,8 @@ growing() {
 
 # Runs a program under callgrind, in an empty environment. NAME.counts has the instructions inside each function.
 count() { # NAME PROGRAM WORD...
-    env -i valgrind --tool=callgrind --log-file=/dev/null --callgrind-out-file="$work/profile" "${@:2}"
-    callgrind_annotate --inclusive=yes --threshold=100 "$work/profile" >"$work/$1.counts"
+    env -i valgrind --tool=callgrind --log-file=/dev/null --callgrind-out-file="$work/profile" "${@:2}" &&
+        callgrind_annotate --inclusive=yes --threshold=100 "$work/profile" >"$work/$1.counts"
 }
 
 # Counts a program by both compilers: NAME-gcc and NAME-clang. NAME.printed is what it prints.
@@ -274,7 +274,7 @@ print_all() {
     with 'Under levels that are all 8:' levels_table eights
     with 'Under scattered levels:' levels_table scattered
     with '## Growth' growth_table own
-    with 'Under scattered levels, by gauges:' growth_table scattered
+    with 'Under scattered levels:' growth_table scattered
     with '## The fit call' fit_table
     with '## The reading call' reading_table
     with '## The program faces' process_table
