@@ -73,7 +73,7 @@ static void merge_all(bool is_older, size_t k, uint32_t one) {
     lazy_merge(arena, older, newer, RESULT);
     check(expected);
     make_arena(k, one);
-    rattle_merge(arena, WORDS, older, newer, RESULT);
+    rattle_merge(arena, WORDS, older, newer);
     check(expected);
 }
 

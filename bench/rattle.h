@@ -5,7 +5,8 @@
 #include <stddef.h>
 #include <stdint.h>
 
-void rattle_merge(uint32_t *arena, size_t arena_words, size_t older, size_t newer, size_t result);
+// The result's head is record 0.
+void rattle_merge(uint32_t *arena, size_t arena_words, size_t older, size_t newer);
 
 // Answers with the number of items.
 uint32_t rattle_list(const uint8_t *file, size_t file_bytes, const uint8_t *levels, size_t level_bytes, uint32_t *arena,

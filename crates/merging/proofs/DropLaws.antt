@@ -13,7 +13,8 @@ use Rattle.arena.specs.Chain.{Has, put, All, Member, Linked, after, Same}
 use Rattle.arena.proofs.Cases.{lt-or-ge, eq-or-ne, last-or-below}
 use Rattle.arena.proofs.PutLaws.{length-put, word-same, word-other-record, word-other-field, same-put, same-refl, same-trans}
 use Rattle.arena.proofs.Frames.{next-here, next-past, all-map, same-shape, same-value, next-frame, chain-frame, trues-frame}
-use Rattle.merging.specs.Dropping.{handed, handedOver, Dropped}
+use Rattle.arena.specs.Turning.{Suffixes}
+use Rattle.merging.specs.Dropping.{handed, handedOver, Dropped, DroppedTied}
 
 -- One link.
 module _ (a : List ℕ) (h r k : ℕ) (other : r ≡ h → ⊥) (has : Has a h) (small : k < 8) where
@@ -218,3 +219,22 @@ handing-done a₀ a h r n k g done e f x rs l =
     let all : k ≡ level a₀ x = (let q : k ≡ n = omega arith in q) ∙ f ∙ ap (level a₀) same in
     let whole : a ≡ handedOver (level a₀ x) a₀ h x = g .is ∙ ap (λ (i : ℕ). handedOver i a₀ h r) all ∙ ap (λ (y : ℕ). handedOver (level a₀ x) a₀ h y) same in
     subst (λ (b : List ℕ). Dropped a₀ b h x rs) (sym whole) (dropped a₀ h x rs l)
+
+-- The two ways of dropping where the m of a record is the key.
+pub tied-drops : (a b : List ℕ) (h r last key m : ℕ) (sums sums' : List ℕ) → m ≡ word a last 1 → m ≡ key → ((x : ℕ) (rs : List ℕ) → Linked a h (x ∷ rs) → Dropped a b h x rs) → ((f : ℕ → ℕ) → Suffixes f sums → Suffixes (after a f r) sums') → DroppedTied a b h r last key sums sums'
+tied-drops a b h r last key m sums sums' m-is same drop pass =
+    record {
+      drops = λ e. drop;
+      passes = λ e. pass;
+      stays = λ other. absurd (other (sym m-is ∙ same));
+      sums-stay = λ other. absurd (other (sym m-is ∙ same));
+    }
+
+pub tied-stays : (a : List ℕ) (h r last key m : ℕ) (sums : List ℕ) → m ≡ word a last 1 → (m ≡ key → ⊥) → DroppedTied a a h r last key sums sums
+tied-stays a h r last key m sums m-is other =
+    record {
+      drops = λ e. absurd (other (m-is ∙ e));
+      passes = λ e. absurd (other (m-is ∙ e));
+      stays = λ e. refl;
+      sums-stay = λ e. refl;
+    }

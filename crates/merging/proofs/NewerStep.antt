@@ -1,5 +1,5 @@
 -- The newer list's step: its calls are ready, and the merge is further on after it.
--- The first forward of the older list's head is its first record, and what `advance` moves is what `newer-moves` asks.
+-- The first forward of the older list's head is its first record, and the run that is moved is what `newer-moves` asks.
 use mathlib.Core.Path.{_≡_, sym, ap, subst, _∙_}
 use mathlib.Core.List.{List, _∷_, _++_}
 use Prim.Native.Nat.{ℕ, _+_, _^_, _≤_, _<_}

@@ -1,5 +1,5 @@
 -- The older list's step: its calls are ready, and the merge is further on after it.
--- The first forward of the newer list's head is its first record, and what `advance` moves is what `older-stays` and `older-drops` ask.
+-- The first forward of the newer list's head is its first record, and the run that is moved is what `older-stays` and `older-drops` ask.
 use mathlib.Core.Path.{_≡_, sym, ap, subst, _∙_}
 use mathlib.Core.List.{List, _∷_, _++_}
 use Prim.Native.Nat.{ℕ, _+_, _≤_, _<_}
@@ -15,9 +15,10 @@ use Rattle.merging.specs.Cut.{front}
 use Rattle.merging.specs.Settled.{lastSums}
 use Rattle.merging.specs.Cached.{Cached, Kept}
 use Rattle.merging.specs.Advance.{behind, Movable, Moved}
-use Rattle.merging.specs.Dropping.{Dropped}
+use Rattle.merging.specs.Dropping.{Dropped, Tied, DroppedTied}
 use Rattle.merging.specs.Running.{Confined, Merging, Further, OlderReady, OlderDone}
 use Rattle.merging.proofs.OpenLaws.{open-has}
+use Rattle.arena.proofs.Cases.{eq-or-ne}
 use Rattle.arena.proofs.Summing.{suffixes-agree}
 use Rattle.merging.proofs.Advancing.{behind-shorter, all-front}
 use Rattle.merging.proofs.DropLaws.{same-first, first-has}
@@ -25,7 +26,7 @@ use Rattle.merging.proofs.TrioLaws.{trio-movable, trio-moved}
 use Rattle.merging.proofs.Steps.{older-stays, older-drops}
 use Rattle.merging.proofs.Confined.{confined-moved, confined-dropped}
 
--- What `advance` promises of the older list.
+-- What moving a run promises of the older list.
 abbrev pub Moves : (a b : List ℕ) (ho key q : ℕ) (ends ends' : List ℕ) → Type 0
 Moves a b ho key q ends ends' =
     (hc : ℕ) (cs : List ℕ) (r : ℕ) (rs : List ℕ) → Movable a ho hc key cs r rs ends → Moved a b ho hc q cs (front a key (r ∷ rs)) (behind a key (r ∷ rs)) ends'
@@ -99,6 +100,9 @@ module _ (a : List ℕ) (ho hn v : ℕ) (ends : List ℕ) (p : OlderReady a ho h
             let member = subst (λ (x : ℕ). Member b x (p .4)) (sym same) (newer-linked .chain .0) in
             record { has = member .has; low = member .low; high = member .high; nine = kept .newer .nine }
 
+        pub tied : Tied b hn v (getD ends' 0 0) newers
+        tied = record { first = p .3; rest = p .4; linked = newer-linked; summable = passed-summable; has = end-has }
+
         -- And after the newer list's first record left.
         pub dropped-kept : (c newers' : List ℕ) → ((r : ℕ) (rs : List ℕ) → Linked b hn (r ∷ rs) → Dropped b c hn r rs) → ((f : ℕ → ℕ) → Suffixes f newers → Suffixes (after b f v) newers') → Kept c ho hn ends' olders' newers' lasts'
         dropped-kept c newers' drop passed =
@@ -161,8 +165,11 @@ module _ (a₀ a b : List ℕ) (ho hn hc : ℕ) (xs₀ ys₀ : List ℕ) (r : �
         fewer = let f = fewer in omega arith;
       }
 
--- The two ways out of the function: what it read and what its calls promise.
-module _ (a b : List ℕ) (ho hn v key q last : ℕ) (ends ends' : List ℕ) (e : v ≡ word a hn 3) (k : key ≡ word a v 1) (f : q ≡ pUnder a (adjust a hn) v) (move : Moves a b ho key q ends ends') (l : last ≡ word b (getD ends' 0 0) 1) where
+-- The function: what it read and what its calls promise.
+module _ (a b : List ℕ) (ho hn v key q : ℕ) (ends ends' : List ℕ) (e : v ≡ word a hn 3) (k : key ≡ word a v 1) (f : q ≡ pUnder a (adjust a hn) v) (move : Moves a b ho key q ends ends') (c newers newers' : List ℕ) (t : DroppedTied b c hn v (getD ends' 0 0) key newers newers') where
+  abbrev Tie : Type 0
+  Tie = mWord b (getD ends' 0 0) ≡ key
+
   module _ (a₀ : List ℕ) (hc : ℕ) (xs₀ ys₀ : List ℕ) (r : ℕ) (xs : List ℕ) (s : ℕ) (ys cs : List ℕ) (all : List Recorded) (g : Merging a₀ a ho hn hc xs₀ ys₀ (r ∷ xs) (s ∷ ys) cs ends all) (tops : mWord a s ≤ mWord a r) where
     abbrev ready : OlderReady a ho hn ends
     ready = (hc, r, xs, s, ys, cs, all, g .runs, tops)
@@ -170,19 +177,36 @@ module _ (a b : List ℕ) (ho hn v key q last : ℕ) (ends ends' : List ℕ) (e 
     abbrev moved : Moved a b ho hc (pUnder a (adjust a hn) s) cs (front a (mWord a s) (r ∷ xs)) (behind a (mWord a s) (r ∷ xs)) ends'
     moved = older-moved a ho hn v ends ready e key k b q ends' f move
 
-    last-is : last ≡ mWord b (lastWith b 0 hc (cs ++ front a (mWord a s) (r ∷ xs)))
-    last-is = l ∙ ap (λ (x : ℕ). word b x 1) (end-is a ho hn v ends ready e key k b q ends' f move)
+    last-is : mWord b (getD ends' 0 0) ≡ mWord b (lastWith b 0 hc (cs ++ front a (mWord a s) (r ∷ xs)))
+    last-is = ap (λ (x : ℕ). word b x 1) (end-is a ho hn v ends ready e key k b q ends' f move)
 
     key-is : key ≡ mWord a s
     key-is = first a ho hn v ends ready e key k
 
-  pub older-done-stays : (last ≡ key → ⊥) → OlderDone a b ho hn ends ends'
-  older-done-stays other a₀ hc xs₀ ys₀ r xs s ys cs all g tops =
-      further-stays a₀ a b ho hn hc xs₀ ys₀ r xs s ys cs ends ends' all g tops (moved a₀ hc xs₀ ys₀ r xs s ys cs all g tops)
-      (λ t. other (last-is a₀ hc xs₀ ys₀ r xs s ys cs all g tops ∙ t ∙ sym (key-is a₀ hc xs₀ ys₀ r xs s ys cs all g tops)))
+    stays : (Tie → ⊥) → Further a₀ b ho hn hc xs₀ ys₀ ends' all (length (r ∷ xs) + length (s ∷ ys))
+    stays other =
+        further-stays a₀ a b ho hn hc xs₀ ys₀ r xs s ys cs ends ends' all g tops moved
+        (λ equal. other (last-is ∙ equal ∙ sym key-is))
 
-  pub older-done-drops : (c : List ℕ) → last ≡ key → ((r : ℕ) (rs : List ℕ) → Linked b hn (r ∷ rs) → Dropped b c hn r rs) → OlderDone a c ho hn ends ends'
-  older-done-drops c same drop a₀ hc xs₀ ys₀ r xs s ys cs all g tops =
-      further-drops a₀ a b ho hn hc xs₀ ys₀ r xs s ys cs ends ends' all g tops (moved a₀ hc xs₀ ys₀ r xs s ys cs all g tops) c
-      (sym (last-is a₀ hc xs₀ ys₀ r xs s ys cs all g tops) ∙ same ∙ key-is a₀ hc xs₀ ys₀ r xs s ys cs all g tops)
-      (drop s ys (newer-linked a ho hn v ends (ready a₀ hc xs₀ ys₀ r xs s ys cs all g tops) e key k b q ends' f move))
+    drops : Tie → Further a₀ c ho hn hc xs₀ ys₀ ends' all (length (r ∷ xs) + length (s ∷ ys))
+    drops same =
+        further-drops a₀ a b ho hn hc xs₀ ys₀ r xs s ys cs ends ends' all g tops moved c (sym last-is ∙ same ∙ key-is)
+        (t .drops same s ys (newer-linked a ho hn v ends ready e key k b q ends' f move))
+
+  pub older-done : OlderDone a c ho hn ends ends'
+  older-done a₀ hc xs₀ ys₀ r xs s ys cs all g tops =
+      eq-or-ne (mWord b (getD ends' 0 0)) key (drops a₀ hc xs₀ ys₀ r xs s ys cs all g tops)
+      (λ other.
+      subst (λ (x : List ℕ). Further a₀ x ho hn hc xs₀ ys₀ ends' all (length (r ∷ xs) + length (s ∷ ys)))
+      (sym (t .stays other)) (stays a₀ hc xs₀ ys₀ r xs s ys cs all g tops other))
+
+  pub tied-kept : (p : OlderReady a ho hn ends) (olders lasts olders' lasts' : List ℕ) → Kept a ho hn ends olders newers lasts → Cached b ho ends' olders' lasts' → Kept c ho hn ends' olders' newers' lasts'
+  tied-kept p olders lasts olders' lasts' kept cached =
+      eq-or-ne (mWord b (getD ends' 0 0)) key
+      (λ same.
+      dropped-kept a ho hn v ends p e key k b q ends' f move olders newers lasts olders' lasts' kept cached c newers' (t .drops same)
+      (t .passes same))
+      (λ other.
+      subst (λ (x : List ℕ). Kept x ho hn ends' olders' newers' lasts') (sym (t .stays other))
+      (subst (λ (y : List ℕ). Kept b ho hn ends' olders' y lasts') (sym (t .sums-stay other))
+      (older-kept a ho hn v ends p e key k b q ends' f move olders newers lasts olders' lasts' kept cached)))

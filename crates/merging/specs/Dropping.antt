@@ -1,10 +1,11 @@
 -- What the leaving of a list's first record does: the head takes over its forwards and its adjusts, up to its level. No public contract cites it.
 use mathlib.Core.Path.{_≡_}
-use mathlib.Core.List.{List}
+use mathlib.Core.List.{List, _∷_}
 use Prim.Native.Nat.{ℕ, zero, suc, _+_, _<_}
 use lib.ListN.{length}
 use Rattle.arena.specs.Arena.{word, level, mWord, adjust}
-use Rattle.arena.specs.Chain.{put, Linked, trues, after, Same}
+use Rattle.arena.specs.Chain.{Has, put, Linked, trues, after, Same}
+use Rattle.arena.specs.Turning.{Suffixes, Summable}
 
 -- Link k of the head h as that of r.
 abbrev pub handed : List ℕ → ℕ → ℕ → ℕ → List ℕ
@@ -23,3 +24,18 @@ pub record Dropped (a b : List ℕ) (h r : ℕ) (rs : List ℕ) : Type 0 where
   pub level-kept : (x : ℕ) → level b x ≡ level a x
   pub m-kept : (x : ℕ) → mWord b x ≡ mWord a x
   pub outside : (x : ℕ) → (x ≡ h → ⊥) → Same a b x
+
+-- The first record of the head h can leave: r is its number, sums can be renewed by it, and the arena has the record last.
+pub record Tied (a : List ℕ) (h r last : ℕ) (sums : List ℕ) : Type 0 where
+  pub first : ℕ
+  pub rest : List ℕ
+  pub linked : Linked a h (first ∷ rest)
+  pub summable : Summable a r sums
+  pub has : Has a last
+
+-- It has left where the m of last is the key, and the sums are those behind it; else all is as it was.
+pub record DroppedTied (a b : List ℕ) (h r last key : ℕ) (sums sums' : List ℕ) : Type 0 where
+  pub drops : mWord a last ≡ key → (x : ℕ) (rs : List ℕ) → Linked a h (x ∷ rs) → Dropped a b h x rs
+  pub passes : mWord a last ≡ key → (f : ℕ → ℕ) → Suffixes f sums → Suffixes (after a f r) sums'
+  pub stays : (mWord a last ≡ key → ⊥) → b ≡ a
+  pub sums-stay : (mWord a last ≡ key → ⊥) → sums' ≡ sums

@@ -1,9 +1,10 @@
 // The maxplus merge of two lazy lists in an arena: its parts, each proved with its effect on the lists.
-mod advance;
 mod close;
 mod cut_run;
 mod drop_first;
+mod drop_tied;
 mod lift;
+mod linked_run;
 pub mod merge;
 mod move_one;
 mod newer_step;

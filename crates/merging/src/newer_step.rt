@@ -1,12 +1,15 @@
 // The step of the merge that moves a run of the newer list.
 ghost use Rattle.merging.specs.Cached.{Kept};
 ghost use Rattle.merging.specs.Running.{NewerReady, NewerDone};
-use crate::advance::advance;
+use crate::linked_run::linked_run;
+use crate::search::may_pass;
+use crate::walk_run::walk_run;
 use arena::sums::true_p;
 use arena::words::get;
 use arena::words::wide;
 
-// Moves the records of the newer list whose m is larger than that of the older list's first.
+// Moves the records of the newer list whose m is larger than that of the older list's first. A run in which no record has
+// link 1 is one walk.
 pub fn newer_step(
     arena: &mut [u32],
     older: usize,
@@ -22,7 +25,12 @@ pub fn newer_step(
     ensures { λ _. ⌜ Kept (now (arena .exit)) older newer (now (ends .exit)) (now (olders .exit)) (now (newers .exit)) (now (lasts .exit)) ⌝ }
 {
     let r = wide(get(arena, older, 3));
-    let key = get(arena, r, 1);
+    let key = get(arena, r, 1) + 1;
     let q = true_p(arena, r, olders);
-    advance(arena, newer, key + 1, q, ends, newers, lasts);
+    let second = wide(get(arena, newer, 4));
+    if may_pass(arena, second, key) {
+        linked_run(arena, newer, key, q, ends, newers, lasts);
+    } else {
+        walk_run(arena, newer, key, q, ends, newers, lasts);
+    }
 }

@@ -1,15 +1,17 @@
 // The step of the merge that moves a run of the older list.
 ghost use Rattle.merging.specs.Cached.{Kept};
 ghost use Rattle.merging.specs.Running.{OlderReady, OlderDone};
-use crate::advance::advance;
-use crate::drop_first::drop_first;
-use arena::sums::pass;
+use crate::drop_tied::drop_tied;
+use crate::linked_run::linked_run;
+use crate::search::may_pass;
+use crate::walk_run::walk_run;
 use arena::sums::true_p;
 use arena::words::get;
 use arena::words::wide;
 
 // Moves the records of the older list whose m is at least that of the newer list's first. Where the last of them has
-// the same m, the newer list's first record leaves: of two records of one m the older part's stays.
+// the same m, the newer list's first record leaves: of two records of one m the older part's stays. A run in which no record
+// has link 1 is one walk.
 pub fn older_step(
     arena: &mut [u32],
     older: usize,
@@ -27,9 +29,12 @@ pub fn older_step(
     let s = wide(get(arena, newer, 3));
     let key = get(arena, s, 1);
     let q = true_p(arena, s, newers);
-    advance(arena, older, key, q, ends, olders, lasts);
-    if get(arena, ends[0], 1) == key {
-        pass(arena, s, newers);
-        drop_first(arena, newer);
+    let second = wide(get(arena, older, 4));
+    if may_pass(arena, second, key) {
+        linked_run(arena, older, key, q, ends, olders, lasts);
+        drop_tied(arena, newer, s, ends[0], key, newers);
+    } else {
+        walk_run(arena, older, key, q, ends, olders, lasts);
+        drop_tied(arena, newer, s, ends[0], key, newers);
     }
 }

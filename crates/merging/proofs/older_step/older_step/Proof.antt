@@ -1,15 +1,19 @@
 -- `merging::older_step::older_step` meets its contract: the merge is further on, by a run of the older list.
--- Its key is the m of the newer list's first record, so `advance` moves the older records that are not below it; `OlderStep` says what they do to the merge and to the sums kept, and that the first record leaves where the last of them has its m.
+-- Its key is the m of the newer list's first record, so that the older records that are not below it move; `OlderStep` says what they do to the merge and to the sums kept, and that the first record leaves where the last of them has its m.
 use mathlib.Core.Path.{_≡_, _∙_}
+use mathlib.Core.Bool.{Bool}
 use native.Mathlib.Omega.{arith}
 use borrow.Author.Needs.{needs}
-use Rattle.arena.specs.Arena.{word, adjust}
+use Rattle.arena.specs.Arena.{word, forward, adjust}
 use Rattle.arena.specs.Chain.{pUnder}
-use Rattle.merging.proofs.OlderStep.{older-has, older-summable, older-movable, older-moved, end-has, newer-linked, older-kept, passed-summable, dropped-kept, older-done-stays, older-done-drops}
+use Rattle.merging.specs.Cut.{passes}
+use Rattle.merging.proofs.Passing.{link-reach}
+use Rattle.merging.proofs.RunLaws.{second-passes}
+use Rattle.merging.proofs.OlderStep.{older-has, older-summable, older-movable, older-moved, tied, older-done, tied-kept}
 use Rattle.merging.proofs.older_step.older_step.Statement.{statement}
 use Rattle.merging.proofs.older_step.older_step.Tie as tie
 
--- The states of a step, from the function's entry on: the newer list's first record is found, its true p, and the run is moved.
+-- The states of a step, from the function's entry on: the newer list's first record is found, its true p, and whether the next record with link 1 of the list that moves passes.
 module _ (c : tie.After-wide) where
   abbrev entry : tie.Start
   entry = c .before .before .before .before .before .before .before .before
@@ -24,15 +28,21 @@ module _ (c : tie.After-true-p) where
   abbrev at-first : tie.After-wide
   at-first = at-key .before .before
 
-  q-is : c .true-p .result ≡ pUnder (entry at-first .args .arena .now) (adjust (entry at-first .args .arena .now) (entry at-first .args .newer)) (at-first .wide .result)
-  q-is = c .true-p .ensures _ (entry at-first .pre .1 .newer)
+  abbrev start : tie.Start
+  start = entry at-first
 
-module _ (c : tie.After-advance) where
+  q-is : c .true-p .result ≡ pUnder (start .args .arena .now) (adjust (start .args .arena .now) (start .args .newer)) (at-first .wide .result)
+  q-is = c .true-p .ensures _ (start .pre .1 .newer)
+
+module _ (c : tie.After-may-pass) where
+  abbrev at-second : tie.After-wide2
+  at-second = c .before .before
+
   abbrev at-q : tie.After-true-p
-  at-q = c .before .before .before .before .before
+  at-q = at-second .before .before .before
 
-  abbrev found : tie.After-wide
-  found = at-first at-q
+  second : (b : Bool) → c .may-pass .result ≡ b → passes (start at-q .args .arena .now) (forward (start at-q .args .arena .now) (start at-q .args .older) 1) (at-key at-q .get2 .result) ≡ b
+  second b found = second-passes _ _ _ _ _ _ _ (at-second .before .get3 .ensures) (at-second .wide2 .ensures) (c .may-pass .ensures) found
 
 get-requires : tie.Need-get-requires
 get-requires c κs = search needs
@@ -48,35 +58,58 @@ true-p-requires c κs =
     let first = c .before .before .before .before in
     older-summable _ _ _ _ _ (entry first .pre .0) (is-first first) _ _ _ (entry first .pre .1)
 
-advance-requires : tie.Need-advance-requires
-advance-requires c κs =
-    let q = c .before .before .before .before in
-    let first = at-first q in
-    let kept = entry first .pre .1 in
-    ((_, _, _, _, older-movable _ _ _ _ _ (entry first .pre .0) (is-first first) _ (at-key q .get2 .ensures)), record { head = kept .older; ends = kept .ends })
+get-requires-3 : tie.Need-get-requires-3
+get-requires-3 c κs = search needs
 
-slice-read-get : tie.Need-slice-read-get
-slice-read-get c =
-    let at = c .before .before .before .before .before .before .before .before .before .before in
-    let long = older-moved _ _ _ _ _ (entry (found at) .pre .0) (is-first (found at)) _ (at-key (at-q at) .get2 .ensures) _ _ _ (q-is (at-q at)) (at .advance .ensures .0) .ends .long in
+wide-requires-2 : tie.Need-wide-requires-2
+wide-requires-2 c κs = search needs
+
+may-pass-requires : tie.Need-may-pass-requires
+may-pass-requires c κs =
+    let at-second = c .before in
+    let q = at-second .before .before .before in
+    let w = older-movable _ _ _ _ _ (start q .pre .0) (is-first (at-first q)) _ (at-key q .get2 .ensures) in
+    (link-reach _ _ _ (w .list) 1 _ _ (search needs) (at-second .before .get3 .ensures) (at-second .wide2 .ensures), w .some)
+
+linked-run-requires : tie.Need-linked-run-requires
+linked-run-requires c κs =
+    let at-test = c .before .before .before .before .before in
+    let q = at-q at-test in
+    let kept = start q .pre .1 in
+    ((_, _, _, _, older-movable _ _ _ _ _ (start q .pre .0) (is-first (at-first q)) _ (at-key q .get2 .ensures)), (second at-test _ (c .before .before .before .before .if1 .taken), record { head = kept .older; ends = kept .ends }))
+
+slice-read-drop-tied : tie.Need-slice-read-drop-tied
+slice-read-drop-tied c =
+    let at-run = c .before .before .before .before .before .before .before .before .before .before in
+    let q = at-q (at-run .before .before .before .before .before .before) in
+    let long = older-moved _ _ _ _ _ (start q .pre .0) (is-first (at-first q)) _ (at-key q .get2 .ensures) _ _ _ (q-is q) (at-run .linked-run .ensures .0) .ends .long in
     omega arith
 
-get-requires-3 : tie.Need-get-requires-3
-get-requires-3 c κs =
-    let at = c .before .before .before .before .before .before .before .before .before .before in
-    (end-has _ _ _ _ _ (entry (found at) .pre .0) (is-first (found at)) _ (at-key (at-q at) .get2 .ensures) _ _ _ (q-is (at-q at)) (at .advance .ensures .0), search needs)
+drop-tied-requires : tie.Need-drop-tied-requires
+drop-tied-requires c κs =
+    let at-run = c .before .before .before .before .before .before .before .before .before .before .before in
+    let q = at-q (at-run .before .before .before .before .before .before) in
+    tied _ _ _ _ _ (start q .pre .0) (is-first (at-first q)) _ (at-key q .get2 .ensures) _ _ _ (q-is q) (at-run .linked-run .ensures .0) _ _ _ _ _ (start q .pre .1) (at-run .linked-run .ensures .1)
 
-pass-requires : tie.Need-pass-requires
-pass-requires c κs =
-    let at-test = c .before .before .before in
-    let at = at-test .before .before .before .before .before .before .before .before .before .before .before in
-    passed-summable _ _ _ _ _ (entry (found at) .pre .0) (is-first (found at)) _ (at-key (at-q at) .get2 .ensures) _ _ _ (q-is (at-q at)) (at .advance .ensures .0) _ _ _ _ _ (entry (found at) .pre .1) (at .advance .ensures .1)
+walk-run-requires : tie.Need-walk-run-requires
+walk-run-requires c κs =
+    let at-test = c .before .before .before .before .before in
+    let q = at-q at-test in
+    let kept = start q .pre .1 in
+    ((_, _, _, _, older-movable _ _ _ _ _ (start q .pre .0) (is-first (at-first q)) _ (at-key q .get2 .ensures)), (second at-test _ (c .before .before .before .before .if1 .left), record { head = kept .older; ends = kept .ends }))
 
-drop-first-requires : tie.Need-drop-first-requires
-drop-first-requires c κs =
-    let at-pass = c .before .before .before .before in
-    let at = at-pass .before .before .before .before .before .before .before .before .before .before .before .before .before .before in
-    (_, _, newer-linked _ _ _ _ _ (entry (found at) .pre .0) (is-first (found at)) _ (at-key (at-q at) .get2 .ensures) _ _ _ (q-is (at-q at)) (at .advance .ensures .0))
+slice-read-drop-tied-2 : tie.Need-slice-read-drop-tied-2
+slice-read-drop-tied-2 c =
+    let at-run = c .before .before .before .before .before .before in
+    let q = at-q (at-run .before .before .before .before .before .before) in
+    let long = older-moved _ _ _ _ _ (start q .pre .0) (is-first (at-first q)) _ (at-key q .get2 .ensures) _ _ _ (q-is q) (at-run .walk-run .ensures .0) .ends .long in
+    omega arith
+
+drop-tied-requires-2 : tie.Need-drop-tied-requires-2
+drop-tied-requires-2 c κs =
+    let at-run = c .before .before .before .before .before .before .before in
+    let q = at-q (at-run .before .before .before .before .before .before) in
+    tied _ _ _ _ _ (start q .pre .0) (is-first (at-first q)) _ (at-key q .get2 .ensures) _ _ _ (q-is q) (at-run .walk-run .ensures .0) _ _ _ _ _ (start q .pre .1) (at-run .walk-run .ensures .1)
 
 same-length : tie.Need-same-length
 same-length c = search needs
@@ -95,13 +128,11 @@ same-length-5 c = search needs
 
 returns : tie.Need-returns
 returns c =
-    let at-drop = c .before .before in
-    let at-pass = at-drop .before .before .before .before in
-    let at-end = at-pass .before .before .before .before in
-    let at = at-end .before .before .before .before .before .before .before .before .before .before .before in
-    let tie-taken = c .before .before .before .before .before .before .before .before .before .if1 .taken in (
-      older-done-drops _ _ _ _ _ _ _ _ _ _ (is-first (found at)) (at-key (at-q at) .get2 .ensures) (q-is (at-q at)) (at .advance .ensures .0) (at-end .get3 .ensures) _ (omega arith) (at-drop .drop-first .ensures),
-      dropped-kept _ _ _ _ _ (entry (found at) .pre .0) (is-first (found at)) _ (at-key (at-q at) .get2 .ensures) _ _ _ (q-is (at-q at)) (at .advance .ensures .0) _ _ _ _ _ (entry (found at) .pre .1) (at .advance .ensures .1) _ _ (at-drop .drop-first .ensures) (at-pass .pass .ensures),
+    let at-drop = c .before .before .before .before in
+    let at-run = at-drop .before .before .before .before .before .before .before .before .before .before .before .before in
+    let q = at-q (at-run .before .before .before .before .before .before) in (
+      older-done _ _ _ _ _ _ _ _ _ (is-first (at-first q)) (at-key q .get2 .ensures) (q-is q) (at-run .linked-run .ensures .0) _ _ _ (at-drop .drop-tied .ensures),
+      tied-kept _ _ _ _ _ _ _ _ _ (is-first (at-first q)) (at-key q .get2 .ensures) (q-is q) (at-run .linked-run .ensures .0) _ _ _ (at-drop .drop-tied .ensures) (start q .pre .0) _ _ _ _ (start q .pre .1) (at-run .linked-run .ensures .1),
     )
 
 same-length-6 : tie.Need-same-length-6
@@ -121,10 +152,11 @@ same-length-10 c = search needs
 
 returns-2 : tie.Need-returns-2
 returns-2 c =
-    let at-end = c .before in
-    let at = at-end .before .before .before .before .before .before .before .before .before .before .before in (
-      older-done-stays _ _ _ _ _ _ _ _ _ _ (is-first (found at)) (at-key (at-q at) .get2 .ensures) (q-is (at-q at)) (at .advance .ensures .0) (at-end .get3 .ensures) (λ e. let t = c .if1 .left in omega arith),
-      older-kept _ _ _ _ _ (entry (found at) .pre .0) (is-first (found at)) _ (at-key (at-q at) .get2 .ensures) _ _ _ (q-is (at-q at)) (at .advance .ensures .0) _ _ _ _ _ (entry (found at) .pre .1) (at .advance .ensures .1),
+    let at-drop = c .before .before .before .before in
+    let at-run = at-drop .before .before .before .before .before .before .before .before in
+    let q = at-q (at-run .before .before .before .before .before .before) in (
+      older-done _ _ _ _ _ _ _ _ _ (is-first (at-first q)) (at-key q .get2 .ensures) (q-is q) (at-run .walk-run .ensures .0) _ _ _ (at-drop .drop-tied2 .ensures),
+      tied-kept _ _ _ _ _ _ _ _ _ (is-first (at-first q)) (at-key q .get2 .ensures) (q-is q) (at-run .walk-run .ensures .0) _ _ _ (at-drop .drop-tied2 .ensures) (start q .pre .0) _ _ _ _ (start q .pre .1) (at-run .walk-run .ensures .1),
     )
 
 pub older-step-spec : {M : Type 1} → statement M
@@ -135,11 +167,15 @@ older-step-spec =
     wide-requires
     get-requires-2
     true-p-requires
-    advance-requires
-    slice-read-get
     get-requires-3
-    pass-requires
-    drop-first-requires
+    wide-requires-2
+    may-pass-requires
+    linked-run-requires
+    slice-read-drop-tied
+    drop-tied-requires
+    walk-run-requires
+    slice-read-drop-tied-2
+    drop-tied-requires-2
     same-length
     same-length-2
     same-length-3
