@@ -11,8 +11,8 @@ use Rattle.slicing.specs.Recorded.{Recorded, mergeRecorded, items}
 use Rattle.arena.specs.Arena.{mWord, adjust}
 use Rattle.arena.specs.Lazy.{held}
 use Rattle.arena.specs.Chain.{All, Away, Linked, Same, pUnder, after, trues}
-use Rattle.arena.specs.Building.{Cleared}
-use Rattle.arena.specs.Turning.{Suffixes, Enterable}
+use Rattle.arena.specs.Building.{Built, Cleared}
+use Rattle.arena.specs.Turning.{Suffixes}
 use Rattle.arena.proofs.Frames.{all-map, all-both, all-refl, same-shape, linked-frame, trues-frame}
 use Rattle.arena.proofs.PutLaws.{same-trans}
 use Rattle.merging.specs.Carried.{carried}
@@ -76,16 +76,16 @@ module _ (a b : List ℕ) (ho hn hc : ℕ) (xs ys : List ℕ) (g : Mergeable a h
         records-same room
 
   abbrev older-still : carried b (adjust b ho) xs ≡ held a ho [] xs
-  older-still = carried-still ho xs (g .older-result) (g .result-off-older) (g .older)
+  older-still = carried-still ho xs (g .older-result) (g .result-off-older) (g .older .linked)
 
   abbrev newer-still : carried b (adjust b hn) ys ≡ held a hn [] ys
-  newer-still = carried-still hn ys (g .newer-result) (g .result-off-newer) (g .newer)
+  newer-still = carried-still hn ys (g .newer-result) (g .result-off-newer) (g .newer .linked)
 
   trio : Trio b ho hn hc xs ys [] (replicate 8 hc)
   trio =
       record {
-        older = still-searchable ho xs (g .older-result) (g .result-off-older) (g .older) (g .older-few) (g .older-order);
-        newer = still-searchable hn ys (g .newer-result) (g .result-off-newer) (g .newer) (g .newer-few) (g .newer-order);
+        older = still-searchable ho xs (g .older-result) (g .result-off-older) (g .older .linked) (g .older-few) (g .older-order);
+        newer = still-searchable hn ys (g .newer-result) (g .result-off-newer) (g .newer .linked) (g .newer-few) (g .newer-order);
         result = open-empty b hc (c .built .linked .has) (c .built .linked .top);
         result-ends = ends-filled b hc;
         older-newer = g .older-newer;
@@ -118,8 +118,8 @@ module _ (a b : List ℕ) (ho hn hc : ℕ) (xs ys : List ℕ) (g : Mergeable a h
                     newer-order = subst (λ (l : List Recorded). Ordered (items l)) (sym newer-still) (g .newer-order);
                     small = λ x y i j.
                         g .small x y (subst (λ (l : List Recorded). List·Memᴰ x l) older-still i) (subst (λ (l : List Recorded). List·Memᴰ y l) newer-still j);
-                    older-room = still-room ho xs (g .older-result) (g .result-off-older) (g .older) (g .older-room);
-                    newer-room = still-room hn ys (g .newer-result) (g .result-off-newer) (g .newer) (g .newer-room);
+                    older-room = still-room ho xs (g .older-result) (g .result-off-older) (g .older .linked) (g .older-room);
+                    newer-room = still-room hn ys (g .newer-result) (g .result-off-newer) (g .newer .linked) (g .newer-room);
                   };
               gives = ap₂ (mergeRecorded 0) older-still newer-still;
             };
@@ -173,29 +173,22 @@ module _ (a b : List ℕ) (ho hn : ℕ) (c : Cleared a 0 b) where
   merge-ready p =
       (b, 0, p .0, p .1, p .0, p .1, [], whole a b ho hn 0 (p .0) (p .1) (p .2) c (c .floor), begins a b ho hn 0 (p .0) (p .1) (p .2) c (c .floor))
 
-  -- The sums kept at the start: those of the two heads, and none of the result's head.
-  head-enterable : (h : ℕ) (rs : List ℕ) → Linked a h rs → Enterable b h (replicate 9 0)
-  head-enterable h rs l =
-      let long = c .long in
-      let has = l .has in
-      record { has = omega arith; nine = refl; none = refl }
-
-  pub older-enterable : ((xs : List ℕ) × (ys : List ℕ) × Mergeable a ho hn 0 xs ys) → Enterable b ho (replicate 9 0)
-  older-enterable p = head-enterable ho (p .0) (p .2 .older)
-
-  pub newer-enterable : ((xs : List ℕ) × (ys : List ℕ) × Mergeable a ho hn 0 xs ys) → Enterable b hn (replicate 9 0)
-  newer-enterable p = head-enterable hn (p .1) (p .2 .newer)
-
-  pub merge-kept : (olders newers : List ℕ) → Suffixes (adjust b ho) olders → Suffixes (adjust b hn) newers → Kept b ho hn (replicate 8 0) olders newers (replicate 9 0)
-  merge-kept olders newers older newer =
+  -- The sums kept at the start are 0, as the adjusts of all three heads are.
+  pub merge-kept : ((xs : List ℕ) × (ys : List ℕ) × Mergeable a ho hn 0 xs ys) → Kept b ho hn (replicate 8 0) (replicate 9 0) (replicate 9 0) (replicate 9 0)
+  merge-kept p =
       record {
-        older = older;
-        newer = newer;
+        older = still ho (p .0) (p .2 .older-result) (p .2 .older);
+        newer = still hn (p .1) (p .2 .newer-result) (p .2 .newer);
         ends =
             suffixes-agree (λ k. 0) (lastSums b (replicate 8 0)) (replicate 9 0)
             (λ k low high. ap (λ (x : ℕ). adjust b x k) (getD-replicate 8 k 0 0 high) ∙ c .built .still k high)
             suffixes-none;
       }
+    where
+      still : (h : ℕ) (rs : List ℕ) → (h ≡ 0 → ⊥) → Built a h rs → Suffixes (adjust b h) (replicate 9 0)
+      still h rs apart built =
+          suffixes-agree (λ k. 0) (adjust b h) (replicate 9 0)
+          (λ k low high. c .outside h apart .at (11 + k) (omega arith) ∙ built .still k high) suffixes-none
 
   module _ (d ends : List ℕ) (runs : RunsDone b d ho hn (replicate 8 0) ends) where
     finished : (xs ys : List ℕ) (g : Mergeable a ho hn 0 xs ys) → Finished b d ho hn 0 xs ys ends (whole a b ho hn 0 xs ys g c (c .floor))

@@ -7,14 +7,14 @@ use Rattle.slicing.specs.Good.{Ordered}
 use Rattle.slicing.specs.Recorded.{Recorded, mergeRecorded, items}
 use Rattle.arena.specs.Arena.{level, mWord}
 use Rattle.arena.specs.Lazy.{held}
-use Rattle.arena.specs.Chain.{Has, All, Away, Linked, Same}
+use Rattle.arena.specs.Chain.{Has, All, Away, Same}
 use Rattle.arena.specs.Building.{Built}
 use Rattle.merging.specs.Trio.{Roomy}
 
--- The lists xs and ys of the heads ho and hn share nothing and hc is apart from both; they are ordered, and no sum of a p of each leaves 32 bits.
+-- The lists xs and ys of the heads ho and hn, whose adjusts are 0, share nothing and hc is apart from both; they are ordered, and no sum of a p of each leaves 32 bits.
 pub record Mergeable (a : List ℕ) (ho hn hc : ℕ) (xs ys : List ℕ) : Type 0 where
-  pub older : Linked a ho xs
-  pub newer : Linked a hn ys
+  pub older : Built a ho xs
+  pub newer : Built a hn ys
   pub result-has : Has a hc
   pub older-newer : ho ≡ hn → ⊥
   pub older-result : ho ≡ hc → ⊥

@@ -5,11 +5,11 @@ ghost use Rattle.merging.specs.Merge.{Mergeable, Merged};
 use crate::close::close;
 use crate::runs::merge_runs;
 use arena::empty::clear_head;
-use arena::sums::enter;
 
 // Makes the list of record 0 the merge of the lists of two heads: whole runs of records change lists at once, and an
-// adjust raises all that it covers. The sums of the heads and of the ends are kept beside the arena. Record 0 is cleared
-// first, so that its m ends every search. The two heads are used up.
+// adjust raises all that it covers. The sums of the heads and of the ends are kept beside the arena: 0 at the start, as
+// the adjusts of a list that was made are at its head. Record 0 is cleared first, so that its m ends every search. The two
+// heads are used up.
 pub fn merge(arena: &mut [u32], older: usize, newer: usize)
     requires { ⌜ ((xs : List ℕ) × (ys : List ℕ) × Mergeable (now arena) older newer 0 xs ys) ⌝ }
     ensures { λ _. ⌜ ((xs ys : List ℕ) → Mergeable (now (arena .entry)) older newer 0 xs ys → Merged (now (arena .entry)) (now (arena .exit)) older newer 0 xs ys) ⌝ }
@@ -19,8 +19,6 @@ pub fn merge(arena: &mut [u32], older: usize, newer: usize)
     let mut olders = [0u32; 9];
     let mut newers = [0u32; 9];
     let mut lasts = [0u32; 9];
-    enter(arena, older, &mut olders);
-    enter(arena, newer, &mut newers);
     merge_runs(
         arena,
         older,

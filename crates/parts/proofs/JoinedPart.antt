@@ -63,8 +63,8 @@ module _ (levels c : List ℕ) (x y lo mid hi : ℕ) (l k : List Recorded) (p : 
       let most = newer-range .most in
       let middle = older-range .most in
       record {
-        older = p .built .linked;
-        newer = q .built .linked;
+        older = p .built;
+        newer = q .built;
         result-has = omega arith;
         older-newer = apart;
         older-result = λ e. omega arith;

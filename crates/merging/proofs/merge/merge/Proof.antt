@@ -1,45 +1,21 @@
 -- `merging::merge::merge` meets its contract.
--- The cleared result and the two lists are a merge on its way, with the sums of their heads kept, and closing gives its result.
+-- The cleared result and the two lists are a merge on its way, with no sum at their heads, and closing gives its result.
 use borrow.Author.Needs.{needs}
-use Rattle.merging.proofs.MergeLaws.{merge-ready, older-enterable, newer-enterable, merge-kept, merge-closes, merge-done}
+use Rattle.merging.proofs.MergeLaws.{merge-ready, merge-kept, merge-closes, merge-done}
 use Rattle.merging.proofs.merge.merge.Statement.{statement}
 use Rattle.merging.proofs.merge.merge.Tie as tie
 
--- The states of a merge: record 0 is cleared, the sums of both heads are entered, and the runs are moved.
+-- The states of a merge: record 0 is cleared, and the runs are moved.
 module _ (c : tie.After-clear-head) where
   abbrev entry : tie.Start
   entry = c .before .before .before
 
-module _ (c : tie.After-enter2) where
-  abbrev at-enter : tie.After-enter
-  at-enter = c .before .before .before .before
-
-  abbrev at-clear : tie.After-clear-head
-  at-clear = at-enter .before .before .before .before .before
-
 module _ (c : tie.After-merge-runs) where
   abbrev cleared : tie.After-clear-head
-  cleared = at-clear (c .before .before .before .before .before .before .before)
+  cleared = c .before .before .before .before .before .before .before .before
 
 clear-head-requires : tie.Need-clear-head-requires
 clear-head-requires c κs = search needs
-
-slice-aggregate-enter : tie.Need-slice-aggregate-enter
-slice-aggregate-enter c = search needs
-
-enter-requires : tie.Need-enter-requires
-enter-requires c κs =
-    let clear = c .before .before .before .before in
-    older-enterable _ _ _ _ (clear .clear-head .ensures) (entry clear .pre)
-
-slice-aggregate-enter-2 : tie.Need-slice-aggregate-enter-2
-slice-aggregate-enter-2 c = search needs
-
-enter-requires-2 : tie.Need-enter-requires-2
-enter-requires-2 c κs =
-    let enters = c .before .before .before in
-    let clear = enters .before .before .before .before .before in
-    newer-enterable _ _ _ _ (clear .clear-head .ensures) (entry clear .pre)
 
 slice-aggregate-merge-runs : tie.Need-slice-aggregate-merge-runs
 slice-aggregate-merge-runs c = search needs
@@ -55,9 +31,8 @@ slice-aggregate-merge-runs-4 c = search needs
 
 merge-runs-requires : tie.Need-merge-runs-requires
 merge-runs-requires c κs =
-    let enters = c .before .before .before .before .before .before in
-    let clear = at-clear enters in
-    (merge-ready _ _ _ _ (clear .clear-head .ensures) (entry clear .pre), merge-kept _ _ _ _ (clear .clear-head .ensures) _ _ (at-enter enters .enter .ensures) (enters .enter2 .ensures))
+    let clear = c .before .before .before .before .before .before .before in
+    (merge-ready _ _ _ _ (clear .clear-head .ensures) (entry clear .pre), merge-kept _ _ _ _ (clear .clear-head .ensures) (entry clear .pre))
 
 slice-aggregate-close : tie.Need-slice-aggregate-close
 slice-aggregate-close c = search needs
@@ -81,10 +56,6 @@ merge-spec =
     tie.close
     (tie.spec
     clear-head-requires
-    slice-aggregate-enter
-    enter-requires
-    slice-aggregate-enter-2
-    enter-requires-2
     slice-aggregate-merge-runs
     slice-aggregate-merge-runs-2
     slice-aggregate-merge-runs-3
