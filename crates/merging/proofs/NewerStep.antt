@@ -11,7 +11,7 @@ use Rattle.arena.specs.Chain.{Has, pUnder}
 use Rattle.arena.specs.Turning.{Summable}
 use Rattle.merging.specs.Cut.{front}
 use Rattle.merging.specs.Cached.{Cached, Kept}
-use Rattle.merging.specs.Advance.{behind, Movable, Moved}
+use Rattle.merging.specs.Advance.{behind, Movable, Moved, RunMoved}
 use Rattle.merging.specs.Running.{Merging, Further, NewerReady, NewerDone}
 use Rattle.arena.proofs.Summing.{suffixes-agree}
 use Rattle.merging.proofs.Advancing.{behind-shorter, all-front}
@@ -51,7 +51,7 @@ module _ (a : List ℕ) (ho hn v : ℕ) (ends : List ℕ) (p : NewerReady a ho h
     pub newer-cached : Cached a hn ends newers lasts
     newer-cached = record { head = kept .newer; ends = kept .ends }
 
-    pub newer-kept : (key : ℕ) → key ≡ word a v 1 → (b : List ℕ) (q : ℕ) (ends' : List ℕ) → ((hc : ℕ) (cs : List ℕ) (r : ℕ) (rs : List ℕ) → Movable a hn hc (key + 1) cs r rs ends → Moved a b hn hc q cs (front a (key + 1) (r ∷ rs)) (behind a (key + 1) (r ∷ rs)) ends') → (newers' lasts' : List ℕ) → Cached b hn ends' newers' lasts' → Kept b ho hn ends' olders newers' lasts'
+    pub newer-kept : (key : ℕ) → key ≡ word a v 1 → (b : List ℕ) (q : ℕ) (ends' : List ℕ) → RunMoved a b hn (key + 1) q ends ends' → (newers' lasts' : List ℕ) → Cached b hn ends' newers' lasts' → Kept b ho hn ends' olders newers' lasts'
     newer-kept key k b q ends' move newers' lasts' cached =
         let lists = p .7 .waits .lists in
         let d = move (p .0) (p .5) (p .3) (p .4) (newer-movable key k) in
@@ -85,7 +85,7 @@ module _ (a₀ a b : List ℕ) (ho hn hc : ℕ) (xs₀ ys₀ : List ℕ) (r : �
       }
 
 pub newer-done : (a b : List ℕ) (ho hn v key q : ℕ) (ends ends' : List ℕ) → v ≡ word a ho 3 → key ≡ word a v 1 → q ≡ pUnder a (adjust a ho) v
-    → ((hc : ℕ) (cs : List ℕ) (r : ℕ) (rs : List ℕ) → Movable a hn hc (key + 1) cs r rs ends → Moved a b hn hc q cs (front a (key + 1) (r ∷ rs)) (behind a (key + 1) (r ∷ rs)) ends') → NewerDone a b ho hn ends ends'
+    → RunMoved a b hn (key + 1) q ends ends' → NewerDone a b ho hn ends ends'
 newer-done a b ho hn v key q ends ends' e k f move a₀ hc xs₀ ys₀ r xs s ys cs all g less =
     let ready : NewerReady a ho hn ends = (hc, r, xs, s, ys, cs, all, g .runs, less) in
     let same = same-first a ho v r xs (g .runs .waits .lists .older .linked) e in

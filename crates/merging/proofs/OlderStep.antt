@@ -14,7 +14,7 @@ use Rattle.arena.proofs.ListLaws.{last-all, all-append}
 use Rattle.merging.specs.Cut.{front}
 use Rattle.merging.specs.Settled.{lastSums}
 use Rattle.merging.specs.Cached.{Cached, Kept}
-use Rattle.merging.specs.Advance.{behind, Movable, Moved}
+use Rattle.merging.specs.Advance.{behind, Movable, Moved, RunMoved}
 use Rattle.merging.specs.Dropping.{Dropped, Tied, DroppedTied}
 use Rattle.merging.specs.Running.{Confined, Merging, Further, OlderReady, OlderDone}
 use Rattle.merging.proofs.OpenLaws.{open-has}
@@ -25,11 +25,6 @@ use Rattle.merging.proofs.DropLaws.{same-first, first-has}
 use Rattle.merging.proofs.TrioLaws.{trio-movable, trio-moved}
 use Rattle.merging.proofs.Steps.{older-stays, older-drops}
 use Rattle.merging.proofs.Confined.{confined-moved, confined-dropped}
-
--- What moving a run promises of the older list.
-abbrev pub Moves : (a b : List ℕ) (ho key q : ℕ) (ends ends' : List ℕ) → Type 0
-Moves a b ho key q ends ends' =
-    (hc : ℕ) (cs : List ℕ) (r : ℕ) (rs : List ℕ) → Movable a ho hc key cs r rs ends → Moved a b ho hc q cs (front a key (r ∷ rs)) (behind a key (r ∷ rs)) ends'
 
 module _ (a : List ℕ) (ho hn v : ℕ) (ends : List ℕ) (p : OlderReady a ho hn ends) (e : v ≡ word a hn 3) where
   same : v ≡ p .3
@@ -59,7 +54,7 @@ module _ (a : List ℕ) (ho hn v : ℕ) (ends : List ℕ) (p : OlderReady a ho h
         trio-movable a ho hn (p .0) key (p .1) (p .2) (p .3 ∷ p .4) (p .5) ends (p .7 .waits .lists) (omega arith) (omega arith)
 
     -- After the run was moved, in the words of the laws.
-    module _ (b : List ℕ) (q : ℕ) (ends' : List ℕ) (f : q ≡ pUnder a (adjust a hn) v) (move : Moves a b ho key q ends ends') where
+    module _ (b : List ℕ) (q : ℕ) (ends' : List ℕ) (f : q ≡ pUnder a (adjust a hn) v) (move : RunMoved a b ho key q ends ends') where
       pub older-moved : Moved a b ho (p .0) (pUnder a (adjust a hn) (p .3)) (p .5) (front a (mWord a (p .3)) (p .1 ∷ p .2)) (behind a (mWord a (p .3)) (p .1 ∷ p .2)) ends'
       older-moved =
           subst (λ (x : ℕ). Moved a b ho (p .0) x (p .5) (front a (mWord a (p .3)) (p .1 ∷ p .2)) (behind a (mWord a (p .3)) (p .1 ∷ p .2)) ends') (f ∙ ap (pUnder a (adjust a hn)) same)
@@ -166,7 +161,7 @@ module _ (a₀ a b : List ℕ) (ho hn hc : ℕ) (xs₀ ys₀ : List ℕ) (r : �
       }
 
 -- The function: what it read and what its calls promise.
-module _ (a b : List ℕ) (ho hn v key q : ℕ) (ends ends' : List ℕ) (e : v ≡ word a hn 3) (k : key ≡ word a v 1) (f : q ≡ pUnder a (adjust a hn) v) (move : Moves a b ho key q ends ends') (c newers newers' : List ℕ) (t : DroppedTied b c hn v (getD ends' 0 0) key newers newers') where
+module _ (a b : List ℕ) (ho hn v key q : ℕ) (ends ends' : List ℕ) (e : v ≡ word a hn 3) (k : key ≡ word a v 1) (f : q ≡ pUnder a (adjust a hn) v) (move : RunMoved a b ho key q ends ends') (c newers newers' : List ℕ) (t : DroppedTied b c hn v (getD ends' 0 0) key newers newers') where
   abbrev Tie : Type 0
   Tie = mWord b (getD ends' 0 0) ≡ key
 

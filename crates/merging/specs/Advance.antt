@@ -7,7 +7,7 @@ use lib.Dec.{leb}
 use lib.ListN.{length}
 use Rattle.arena.specs.Arena.{level, mWord, adjust}
 use Rattle.arena.specs.Chain.{wrap, All, Away, Linked, trues, leaving, Same}
-use Rattle.merging.specs.Cut.{Searchable}
+use Rattle.merging.specs.Cut.{front, Searchable}
 use Rattle.merging.specs.Open.{OpenLinked, CutC}
 
 -- The records of rs from the first whose m is below the key on.
@@ -39,3 +39,12 @@ pub record Moved (a b : List ℕ) (h hc q : ℕ) (cs fr back cutd : List ℕ) : 
   pub rest-values : trues b (adjust b h) back ≡ trues a (leaving a (adjust a h) fr) back
   pub result-sums : (k : ℕ) → k < 8 → adjust b hc k ≡ adjust a hc k
   pub outside : (x : ℕ) → (h ≡ x → ⊥) → (hc ≡ x → ⊥) → Away x cs → Away x fr → Same a b x
+
+-- What moving a run asks, for some open list with these ends, and what it promises for any.
+abbrev pub RunReady : (a : List ℕ) (h key : ℕ) (ends : List ℕ) → Type 0
+RunReady a h key ends =
+    (hc : ℕ) × (cs : List ℕ) × (r : ℕ) × (rs : List ℕ) × Movable a h hc key cs r rs ends
+
+abbrev pub RunMoved : (a b : List ℕ) (h key q : ℕ) (ends ends' : List ℕ) → Type 0
+RunMoved a b h key q ends ends' =
+    (hc : ℕ) (cs : List ℕ) (r : ℕ) (rs : List ℕ) → Movable a h hc key cs r rs ends → Moved a b h hc q cs (front a key (r ∷ rs)) (behind a key (r ∷ rs)) ends'

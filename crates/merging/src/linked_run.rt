@@ -1,11 +1,9 @@
 // A run in which a record has link 1.
 ghost use mathlib.Core.Path.{_≡_};
 ghost use mathlib.Core.Bool.{true};
-ghost use mathlib.Core.List.{List, _∷_};
-ghost use Prim.Native.Nat.{ℕ};
 ghost use Rattle.arena.specs.Arena.{forward};
-ghost use Rattle.merging.specs.Cut.{front, passes};
-ghost use Rattle.merging.specs.Advance.{behind, Movable, Moved};
+ghost use Rattle.merging.specs.Cut.{passes};
+ghost use Rattle.merging.specs.Advance.{RunReady, RunMoved};
 ghost use Rattle.merging.specs.Cached.{Cached};
 use crate::cut_run::cut_run;
 use crate::move_one::move_one;
@@ -24,10 +22,10 @@ pub fn linked_run(
     sums: &mut [u32],
     lasts: &mut [u32],
 )
-    requires { ⌜ ((hc : ℕ) × (cs : List ℕ) × (r : ℕ) × (rs : List ℕ) × Movable (now arena) head hc key cs r rs (now ends)) ⌝ }
+    requires { ⌜ RunReady (now arena) head key (now ends) ⌝ }
     requires { ⌜ passes (now arena) (forward (now arena) head 1) key ≡ true ⌝ }
     requires { ⌜ Cached (now arena) head (now ends) (now sums) (now lasts) ⌝ }
-    ensures { λ _. ⌜ ((hc : ℕ) (cs : List ℕ) (r : ℕ) (rs : List ℕ) → Movable (now (arena .entry)) head hc key cs r rs (now (ends .entry)) → Moved (now (arena .entry)) (now (arena .exit)) head hc q cs (front (now (arena .entry)) key (r ∷ rs)) (behind (now (arena .entry)) key (r ∷ rs)) (now (ends .exit))) ⌝ }
+    ensures { λ _. ⌜ RunMoved (now (arena .entry)) (now (arena .exit)) head key q (now (ends .entry)) (now (ends .exit)) ⌝ }
     ensures { λ _. ⌜ Cached (now (arena .exit)) head (now (ends .exit)) (now (sums .exit)) (now (lasts .exit)) ⌝ }
 {
     let first = wide(get(arena, head, 3));

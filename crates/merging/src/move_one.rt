@@ -1,13 +1,12 @@
 // A run of one record: it goes to the result by its own links.
 ghost use mathlib.Core.Path.{_≡_};
 ghost use mathlib.Core.Bool.{false};
-ghost use mathlib.Core.List.{List, _∷_};
 ghost use Prim.Native.Nat.{ℕ, _<_};
 ghost use lib.ListN.{length};
 ghost use Rattle.arena.specs.Arena.{adjust, forward};
 ghost use Rattle.arena.specs.Chain.{Has};
-ghost use Rattle.merging.specs.Cut.{front, passes};
-ghost use Rattle.merging.specs.Advance.{behind, Movable, Moved};
+ghost use Rattle.merging.specs.Cut.{passes};
+ghost use Rattle.merging.specs.Advance.{RunReady, RunMoved};
 ghost use Rattle.merging.specs.Cached.{Cached};
 ghost use Rattle.merging.specs.Settled.{cutSums};
 use crate::lift::lift;
@@ -41,10 +40,10 @@ pub fn move_one(
     sums: &mut [u32],
     lasts: &mut [u32],
 )
-    requires { ⌜ ((hc : ℕ) × (cs : List ℕ) × (r : ℕ) × (rs : List ℕ) × Movable (now arena) head hc key cs r rs (now ends)) ⌝ }
+    requires { ⌜ RunReady (now arena) head key (now ends) ⌝ }
     requires { ⌜ passes (now arena) (forward (now arena) (forward (now arena) head 0) 0) key ≡ false ⌝ }
     requires { ⌜ Cached (now arena) head (now ends) (now sums) (now lasts) ⌝ }
-    ensures { λ _. ⌜ ((hc : ℕ) (cs : List ℕ) (r : ℕ) (rs : List ℕ) → Movable (now (arena .entry)) head hc key cs r rs (now (ends .entry)) → Moved (now (arena .entry)) (now (arena .exit)) head hc q cs (front (now (arena .entry)) key (r ∷ rs)) (behind (now (arena .entry)) key (r ∷ rs)) (now (ends .exit))) ⌝ }
+    ensures { λ _. ⌜ RunMoved (now (arena .entry)) (now (arena .exit)) head key q (now (ends .entry)) (now (ends .exit)) ⌝ }
     ensures { λ _. ⌜ Cached (now (arena .exit)) head (now (ends .exit)) (now (sums .exit)) (now (lasts .exit)) ⌝ }
 {
     let r = wide(get(arena, head, 3));

@@ -1,12 +1,12 @@
 // A run of records that have link 0 alone: it goes to the result by one walk.
 ghost use mathlib.Core.Path.{_≡_};
 ghost use mathlib.Core.Bool.{false};
-ghost use mathlib.Core.List.{List, _∷_};
+ghost use mathlib.Core.List.{List};
 ghost use Prim.Native.Nat.{ℕ, _≤_};
 ghost use Rattle.arena.specs.Arena.{forward};
-ghost use Rattle.merging.specs.Cut.{front, passes, Searchable};
+ghost use Rattle.merging.specs.Cut.{passes, Searchable};
 ghost use Rattle.merging.specs.Walk.{Walked};
-ghost use Rattle.merging.specs.Advance.{behind, Movable, Moved};
+ghost use Rattle.merging.specs.Advance.{RunReady, RunMoved};
 ghost use Rattle.merging.specs.Cached.{Cached};
 use crate::lift::lift;
 use crate::relink::relink_one;
@@ -43,10 +43,10 @@ pub fn walk_run(
     sums: &[u32],
     lasts: &[u32],
 )
-    requires { ⌜ ((hc : ℕ) × (cs : List ℕ) × (r : ℕ) × (rs : List ℕ) × Movable (now arena) head hc key cs r rs (now ends)) ⌝ }
+    requires { ⌜ RunReady (now arena) head key (now ends) ⌝ }
     requires { ⌜ passes (now arena) (forward (now arena) head 1) key ≡ false ⌝ }
     requires { ⌜ Cached (now arena) head (now ends) (now sums) (now lasts) ⌝ }
-    ensures { λ _. ⌜ ((hc : ℕ) (cs : List ℕ) (r : ℕ) (rs : List ℕ) → Movable (now (arena .entry)) head hc key cs r rs (now (ends .entry)) → Moved (now (arena .entry)) (now (arena .exit)) head hc q cs (front (now (arena .entry)) key (r ∷ rs)) (behind (now (arena .entry)) key (r ∷ rs)) (now (ends .exit))) ⌝ }
+    ensures { λ _. ⌜ RunMoved (now (arena .entry)) (now (arena .exit)) head key q (now (ends .entry)) (now (ends .exit)) ⌝ }
     ensures { λ _. ⌜ Cached (now (arena .exit)) head (now (ends .exit)) (now (sums .entry)) (now (lasts .entry)) ⌝ }
 {
     let v = lift(q, sums, lasts, 1);
