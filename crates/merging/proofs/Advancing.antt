@@ -8,7 +8,7 @@ use lib.ListN.{length, getD, length-append}
 use borrow.Author.Tests.{le-leb, lt-leb}
 use Rattle.arena.specs.Arena.{level, mWord, adjust}
 use Rattle.arena.specs.Lazy.{lastWith}
-use Rattle.arena.specs.Chain.{Has, wrap, All, Away, Linked, pUnder, after, trues, leaving, Same, Shape, Value}
+use Rattle.arena.specs.Chain.{wrap, All, Away, Linked, pUnder, after, trues, leaving, Same, Shape, Value}
 use Rattle.arena.specs.Turning.{Suffixes}
 use Rattle.arena.proofs.Cases.{lt-or-ge}
 use Rattle.arena.proofs.ListLaws.{all-left, all-right, last-none, last-append, last-all, last-inside, leaving-last}

@@ -91,11 +91,6 @@ apart-from a [] ys c = all-refl ys (λ y. tt)
 apart-from a (x ∷ xs) ys c =
     all-both ys (λ y p q. (λ e. p (sym e), q)) (all-right (λ y. y ≡ x → ⊥) xs ys (c .0 .away)) (apart-from a xs ys (c .1))
 
--- Records that have no link at all are none.
-pub no-links : (a : List ℕ) (xs ys : List ℕ) → Chain a (xs ++ ys) → All (λ x. level a x ≤ 0) xs → xs ≡ []
-no-links a [] ys c low = refl
-no-links a (x ∷ xs) ys c low = let some = c .0 .low in let none = low .0 in absurd (omega arith)
-
 -- The records before the first with link i are chained at link i - 1, from the head's forward up to the next record behind them.
 module _ (a : List ℕ) (head k : ℕ) (small : k < 8) (front back : List ℕ) (l : Linked a head (front ++ back)) where
   module _ (low rest : List ℕ) (split : front ≡ low ++ rest) where

@@ -149,9 +149,6 @@ module _ (a₀ a : List ℕ) (h key v cur next : ℕ) (g : Passing a₀ a h key 
 
     -- The turn as the code makes it: the p raised, and the next record read.
     module _ (b : List ℕ) (n w : ℕ) (raised : b ≡ put a next 2 (wrap (word a next 2) v)) (read : w ≡ word b next 3) (is : n ≡ w) where
-      abbrev lifted : List ℕ
-      lifted = put a next 2 (wrap (word a next 2) v)
-
       lifted-field : (x j : ℕ) → j < 19 → (j ≡ 2 → ⊥) → word b x j ≡ word a x j
       lifted-field x j few ne =
           ap (λ (l : List ℕ). word l x j) raised ∙ word-other-field a next 2 _ x j ne (omega arith) few

@@ -1,6 +1,6 @@
 -- What the loop that settles a front keeps: the links from i on are settled, and every true p is right once the records before the first with link i are raised by the carry.
 -- A turn raises these at the link below, so that the raised sum of that link would make each true p right; the carry to the next link is what is left of that sum, and only the records before the first with the link see it.
-use mathlib.Core.Path.{_≡_, refl, sym, ap, ap₂, subst, _∙_}
+use mathlib.Core.Path.{_≡_, refl, sym, ap, subst, _∙_}
 use mathlib.Core.Bool.{cond}
 use mathlib.Core.List.{List, [], _++_, map, append-nil, append-assoc}
 use Prim.Native.Nat.{ℕ, suc, _+_, _-_, _%_, _^_, _≤_, _<_}

@@ -5,7 +5,7 @@ use Prim.Native.Nat.{ℕ, _+_, _^_, _≤_, _<_}
 use lib.ListN.{length}
 use Rattle.slicing.specs.Good.{Ordered}
 use Rattle.slicing.specs.Recorded.{Recorded, mergeRecorded, items}
-use Rattle.arena.specs.Arena.{level, mWord}
+use Rattle.arena.specs.Arena.{level}
 use Rattle.arena.specs.Lazy.{held}
 use Rattle.arena.specs.Chain.{Has, All, Away, Same}
 use Rattle.arena.specs.Building.{Built}

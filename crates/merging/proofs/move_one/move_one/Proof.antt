@@ -1,8 +1,6 @@
 -- `merging::move_one::move_one` meets its contract: the first record stands behind the open list, raised, the list keeps the rest, and the sums kept are right again.
 -- `OneLaws` has that the record is its own cut, and what the calls do together.
-use mathlib.Core.Path.{_≡_, refl, _∙_}
-use mathlib.Core.List.{List}
-use Prim.Native.Nat.{ℕ, _≤_, _<_}
+use mathlib.Core.Path.{_≡_, _∙_}
 use native.Mathlib.Omega.{arith}
 use borrow.Author.Needs.{needs}
 use Rattle.arena.specs.Arena.{word}

@@ -2,7 +2,6 @@
 -- The walk settles the front, and `RunLaws` puts it together with the one link that is changed.
 use mathlib.Core.List.{_∷_}
 use borrow.Author.Needs.{needs}
-use Rattle.arena.specs.Chain.{Has}
 use Rattle.merging.specs.Cached.{MakesUp}
 use Rattle.merging.specs.Settled.{headSums, lastSums}
 use Rattle.merging.proofs.RunLaws.{run-has, run-moved, run-cached}
