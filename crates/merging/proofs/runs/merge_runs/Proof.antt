@@ -16,6 +16,15 @@ Inv-loop arena₀ older newer ends₀ olders₀ newers₀ lasts₀ more₀ arena
 abbrev μ-loop : tie.MeasureT-loop
 μ-loop arena₀ older newer ends₀ olders₀ newers₀ lasts₀ more₀ arena ends olders newers lasts more = waiting arena older newer
 
+-- The states of the loop: a turn begins, the test holds, and the step is made. Both lists are where they were at the function's entry.
+module _ (c : tie.At-loop Inv-loop μ-loop) where
+  abbrev entry : tie.Start Inv-loop μ-loop
+  entry = c .before .before .before .before .before .before .before .before
+
+module _ (c : tie.After-step Inv-loop μ-loop) where
+  abbrev at-turn : tie.In-loop Inv-loop μ-loop
+  at-turn = c .before .before .before .before .before .before
+
 both-wait-requires : tie.Need-both-wait-requires Inv-loop μ-loop
 both-wait-requires c κs = search needs
 
@@ -24,31 +33,36 @@ loop-holds c = (goes-start _ _ _ _, c .both-wait .ensures, c .before .before .be
 
 step-requires : tie.Need-step-requires Inv-loop μ-loop
 step-requires c κs =
-    let at-loop-test = c .before .before .before .before .before in
-    let at-loop = at-loop-test .before in
-    (goes-ready _ _ _ _ _ _ _ (at-loop .loop .inv .0) (at-loop .loop .inv .1) (at-loop-test .loop-test .taken) (at-loop .before .before .before .before .before .before .before .before .pre .0), at-loop .loop .inv .2)
+    let turn = c .before .before .before .before .before in
+    let loop = turn .before in
+    (goes-ready _ _ _ _ _ _ _ (loop .loop .inv .0) (loop .loop .inv .1) (turn .loop-test .taken) (entry loop .pre .0), loop .loop .inv .2)
 
 both-wait-requires-2 : tie.Need-both-wait-requires-2 Inv-loop μ-loop
 both-wait-requires-2 c κs =
-    let lists = c .before .before .before .before .before .before .before .before .before .before .before .before .before .before .before .before .before .before .before .before .before .before .before .before .before .before .pre .0 .8 .runs .waits .lists in
+    let given = c .before .before .before .before .before in
+    let stepped = given .before .before .before .before .before .before in
+    let loop = at-turn stepped .before in
+    let lists = entry loop .pre .0 .8 .runs .waits .lists in
     let older = lists .older .linked .has in
     let newer = lists .newer .linked .has in
-    let long = c .before .before .before .before .before .before .before .before .before .before .before .before .before .before .before .before .before .before .loop .inv .0 .length-kept in
+    let long = loop .loop .inv .0 .length-kept in
     (omega arith, omega arith)
 
 loop-less : tie.Need-loop-less Inv-loop μ-loop
 loop-less c =
-    let at-step = c .before .before .before .before .before .before .before .before .before .before .before .before in
-    let at-loop-test = at-step .before .before .before .before .before .before in
-    let at-loop = at-loop-test .before in
-    goes-less _ _ _ _ _ _ _ (at-loop .loop .inv .0) (at-loop .loop .inv .1) (at-loop-test .loop-test .taken) _ _ (at-step .step .ensures .0) (at-loop .before .before .before .before .before .before .before .before .pre .0)
+    let written = c .before .before .before .before .before .before in
+    let stepped = written .before .before .before .before .before .before in
+    let turn = at-turn stepped in
+    let loop = turn .before in
+    goes-less _ _ _ _ _ _ _ (loop .loop .inv .0) (loop .loop .inv .1) (turn .loop-test .taken) _ _ (stepped .step .ensures .0) (entry loop .pre .0)
 
 loop-again : tie.Need-loop-again Inv-loop μ-loop
 loop-again c =
-    let at-step = c .before .before .before .before .before .before .before .before .before .before .before .before in
-    let at-loop-test = at-step .before .before .before .before .before .before in
-    let at-loop = at-loop-test .before in
-    (goes-turn _ _ _ _ _ _ _ (at-loop .loop .inv .0) (at-loop .loop .inv .1) (at-loop-test .loop-test .taken) _ _ (at-step .step .ensures .0) (search needs) (search needs), c .both-wait2 .ensures, at-step .step .ensures .1)
+    let written = c .before .before .before .before .before .before in
+    let stepped = written .before .before .before .before .before .before in
+    let turn = at-turn stepped in
+    let loop = turn .before in
+    (goes-turn _ _ _ _ _ _ _ (loop .loop .inv .0) (loop .loop .inv .1) (turn .loop-test .taken) _ _ (stepped .step .ensures .0) (search needs) (search needs), c .both-wait2 .ensures, stepped .step .ensures .1)
 
 same-length : tie.Need-same-length Inv-loop μ-loop
 same-length c = c .before .loop .inv .0 .length-kept
@@ -57,13 +71,13 @@ same-length-2 : tie.Need-same-length-2 Inv-loop μ-loop
 same-length-2 c = c .before .loop .inv .0 .ends-kept
 
 same-length-3 : tie.Need-same-length-3 Inv-loop μ-loop
-same-length-3 c = c .before .loop .inv .2 .older .nine ∙ sym (c .before .before .before .before .before .before .before .before .before .pre .1 .older .nine)
+same-length-3 c = c .before .loop .inv .2 .older .nine ∙ sym (entry (c .before) .pre .1 .older .nine)
 
 same-length-4 : tie.Need-same-length-4 Inv-loop μ-loop
-same-length-4 c = c .before .loop .inv .2 .newer .nine ∙ sym (c .before .before .before .before .before .before .before .before .before .pre .1 .newer .nine)
+same-length-4 c = c .before .loop .inv .2 .newer .nine ∙ sym (entry (c .before) .pre .1 .newer .nine)
 
 same-length-5 : tie.Need-same-length-5 Inv-loop μ-loop
-same-length-5 c = c .before .loop .inv .2 .ends .nine ∙ sym (c .before .before .before .before .before .before .before .before .before .pre .1 .ends .nine)
+same-length-5 c = c .before .loop .inv .2 .ends .nine ∙ sym (entry (c .before) .pre .1 .ends .nine)
 
 returns : tie.Need-returns Inv-loop μ-loop
 returns c = (goes-done _ _ _ _ _ _ _ (c .before .loop .inv .0) (c .before .loop .inv .1) (c .loop-test .left), c .before .loop .inv .2)
