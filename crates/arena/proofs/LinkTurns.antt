@@ -8,7 +8,7 @@ use lib.ListN.{getD, set}
 use Rattle.arena.specs.Arena.{word, level}
 use Rattle.arena.specs.Chain.{after}
 use Rattle.arena.specs.Building.{hook1, Hooked}
-use Rattle.arena.specs.Turning.{Suffixes, Turnable1}
+use Rattle.arena.specs.Turning.{Turnable1, Renewed}
 use Rattle.arena.proofs.Summing.{Renewing, renewing-start, renewing-more, renewing-done}
 use Rattle.arena.proofs.HookLaws.{Prepending, prepending-start, prepending-more, prepending-done}
 
@@ -36,6 +36,6 @@ module _ (a : List ℕ) (h r : ℕ) (sums : List ℕ) (can : Turnable1 a h r sum
             (v-is ∙ s .links .hooks .old-adjust (l - 1) (omega arith) (omega arith)) w-is;
       }
 
-  pub links-done : (b left : List ℕ) (l : ℕ) → LinkTurning a h r sums b left l → l ≤ 1 → Hooked 1 (level a r) a h r b × ((f : ℕ → ℕ) → Suffixes f sums → Suffixes (after a f r) left)
+  pub links-done : (b left : List ℕ) (l : ℕ) → LinkTurning a h r sums b left l → l ≤ 1 → Hooked 1 (level a r) a h r b × Renewed a r sums left
   links-done b left l s done =
       (prepending-done a h r b l (s .links) done, renewing-done a r sums left l (can .summable) (s .renewing) done)

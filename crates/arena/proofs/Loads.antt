@@ -109,79 +109,81 @@ pub loading-high : (b : List ℕ) (head first : ℕ) (sizes levels : List ℕ) (
 loading-high b head first sizes levels k v l p e = let h = l .high k p in omega arith
 
 -- The record of size k before those of the sizes from k + 1 on.
-module _ (a : List ℕ) (head first : ℕ) (sizes levels b : List ℕ) (last k : ℕ) (t : Loading a head first sizes levels b last (k + 1)) (v h w : ℕ) (c : List ℕ) (v-is : v ≡ getD levels k 0) (h-is : h ≡ field sizes (4 * k)) (w-is : w ≡ field sizes (4 * k + 2)) (small : w < 65_536) (placed : Placed b head (first + k) last v h w c) where
-  less : k < length levels
-  less = let inside = t .inside in omega arith
+module _ (a : List ℕ) (head first : ℕ) (sizes levels b : List ℕ) (last k : ℕ) (t : Loading a head first sizes levels b last (k + 1)) where
+  module _ (v h w : ℕ) (c : List ℕ) (v-is : v ≡ getD levels k 0) (h-is : h ≡ field sizes (4 * k)) (w-is : w ≡ field sizes (4 * k + 2)) (small : w < 65_536) (placed : Placed b head (first + k) last v h w c) where
+    less : k < length levels
+    less = let inside = t .inside in omega arith
 
-  rest : List ℕ
-  rest = numbers (first + (k + 1)) (length levels - (k + 1))
+    rest : List ℕ
+    rest = numbers (first + (k + 1)) (length levels - (k + 1))
 
-  away : Away (first + k) rest
-  unfolding rest
-  away = numbers-away (first + k) (first + (k + 1)) (length levels - (k + 1)) (omega arith)
+    away : Away (first + k) rest
+    unfolding rest
+    away = numbers-away (first + k) (first + (k + 1)) (length levels - (k + 1)) (omega arith)
 
-  -- The arenas before and after, with the head's first forward stored.
-  abbrev d : List ℕ
-  d = put b head 3 last
+    -- The arenas before and after, with the head's first forward stored.
+    abbrev d : List ℕ
+    d = put b head 3 last
 
-  abbrev e : List ℕ
-  e = put c head 3 (first + k)
+    abbrev e : List ℕ
+    e = put c head 3 (first + k)
 
-  one : Loaded1 d head (first + k) v h w rest e
-  unfolding rest
-  one =
-      let inside = less in
-      let some = t .can .some in
-      let has = t .can .has in
-      let low = t .can .low k less in
-      let high = t .can .high k less in
-      loaded-beside b head (first + k) v h w last rest c (t .filled .built) (omega arith) (omega arith) (omega arith) (omega arith) (omega arith) (t .can .apart k less) away placed
+    one : Loaded1 d head (first + k) v h w rest e
+    unfolding rest
+    one =
+        let inside = less in
+        let some = t .can .some in
+        let has = t .can .has in
+        let low = t .can .low k less in
+        let high = t .can .high k less in
+        loaded-beside b head (first + k) v h w last rest c (t .filled .built) (omega arith) (omega arith) (omega arith) (omega arith) (omega arith) (t .can .apart k less) away placed
 
-  rest-same : All (Same d e) rest
-  unfolding rest
-  rest-same = all-both rest (one .outside) (t .filled .built .linked .away) away
+    rest-same : All (Same d e) rest
+    unfolding rest
+    rest-same = all-both rest (one .outside) (t .filled .built .linked .away) away
 
-  filled-one : Filled a head first sizes levels e k
-  unfolding rest
-  filled-one =
-      record {
-        outside = rw (numbers-step first k (length levels) less)
-            (λ x p q. same-trans a d e x (t .filled .outside x p (q .1)) (one .outside x p (λ f. q .0 (sym f))));
-        built = rw (numbers-step first k (length levels) less) (one .built);
-        level-is =
-            rw (numbers-step first k (length levels) less)
-            (ap₂ _∷_ (one .level-is ∙ v-is)
-            (map-same (level e) (level d) rest (all-map rest (λ x (s : Same d e x). s .at 0 (omega arith)) rest-same)
-            ∙ t .filled .level-is)
-            ∙ sym (levels-step levels k less));
-        m-is =
-            rw (numbers-step first k (length levels) less, sizes-step sizes k (length levels) less)
-            (ap₂ _∷_ (one .m-is ∙ h-is)
-            (map-same (mWord e) (mWord d) rest (all-map rest (λ x (s : Same d e x). s .at 1 (omega arith)) rest-same)
-            ∙ t .filled .m-is));
-        true-p =
-            rw (numbers-step first k (length levels) less, sizes-step sizes k (length levels) less)
-            (one .true-p ∙ ap₂ _∷_ w-is (t .filled .true-p));
-      }
+    filled-one : Filled a head first sizes levels e k
+    unfolding rest
+    filled-one =
+        record {
+          outside = rw (numbers-step first k (length levels) less)
+              (λ x p q. same-trans a d e x (t .filled .outside x p (q .1)) (one .outside x p (λ f. q .0 (sym f))));
+          built = rw (numbers-step first k (length levels) less) (one .built);
+          level-is =
+              rw (numbers-step first k (length levels) less)
+              (ap₂ _∷_ (one .level-is ∙ v-is)
+              (map-same (level e) (level d) rest (all-map rest (λ x (s : Same d e x). s .at 0 (omega arith)) rest-same)
+              ∙ t .filled .level-is)
+              ∙ sym (levels-step levels k less));
+          m-is =
+              rw (numbers-step first k (length levels) less, sizes-step sizes k (length levels) less)
+              (ap₂ _∷_ (one .m-is ∙ h-is)
+              (map-same (mWord e) (mWord d) rest (all-map rest (λ x (s : Same d e x). s .at 1 (omega arith)) rest-same)
+              ∙ t .filled .m-is));
+          true-p =
+              rw (numbers-step first k (length levels) less, sizes-step sizes k (length levels) less)
+              (one .true-p ∙ ap₂ _∷_ w-is (t .filled .true-p));
+        }
 
-  loading-one : Loading a head first sizes levels c (first + k) k
-  loading-one =
-      let inside = less in
-      let stored = one .long in
-      let before = length-put b head 3 last in
-      let after = length-put c head 3 (first + k) in
-      let long : length c ≡ length b = omega arith in
-      record {
-        inside = omega arith;
-        can = loadable-kept b c head first sizes levels long (t .can);
-        long = long ∙ t .long;
-        filled = filled-one;
-      }
+    loading-one : Loading a head first sizes levels c (first + k) k
+    loading-one =
+        let inside = less in
+        let stored = one .long in
+        let before = length-put b head 3 last in
+        let after = length-put c head 3 (first + k) in
+        let long : length c ≡ length b = omega arith in
+        record {
+          inside = omega arith;
+          can = loadable-kept b c head first sizes levels long (t .can);
+          long = long ∙ t .long;
+          filled = filled-one;
+        }
 
-pub loading-more : (a : List ℕ) (head first : ℕ) (sizes levels b : List ℕ) (last i : ℕ) → Loading a head first sizes levels b last i → 0 < i → (v h w : ℕ) (c : List ℕ) → v ≡ getD levels (i - 1) 0 → h ≡ field sizes (4 * (i - 1)) → w ≡ field sizes (4 * (i - 1) + 2) → w < 65_536 → Placed b head (first + (i - 1)) last v h w c → Loading a head first sizes levels c (first + (i - 1)) (i - 1)
-loading-more a head first sizes levels b last i t some v h w c v-is h-is w-is small placed =
-    let back : i ≡ i - 1 + 1 = omega arith in
-    loading-one a head first sizes levels b last (i - 1) (subst (Loading a head first sizes levels b last) back t) v h w c v-is h-is w-is small placed
+module _ (a : List ℕ) (head first : ℕ) (sizes levels b : List ℕ) (last i : ℕ) (t : Loading a head first sizes levels b last i) (some : 0 < i) where
+  pub loading-more : (v h w : ℕ) (c : List ℕ) → v ≡ getD levels (i - 1) 0 → h ≡ field sizes (4 * (i - 1)) → w ≡ field sizes (4 * (i - 1) + 2) → w < 65_536 → Placed b head (first + (i - 1)) last v h w c → Loading a head first sizes levels c (first + (i - 1)) (i - 1)
+  loading-more v h w c v-is h-is w-is small placed =
+      let back : i ≡ i - 1 + 1 = omega arith in
+      loading-one a head first sizes levels b last (i - 1) (subst (Loading a head first sizes levels b last) back t) v h w c v-is h-is w-is small placed
 
 pub loading-done : (a : List ℕ) (head first : ℕ) (sizes levels b d : List ℕ) (last i : ℕ) (c : List ℕ) → Cleared a head b → Loading b head first sizes levels d last i → i ≤ 0 → c ≡ put d head 3 last → Loaded a head first sizes levels c
 loading-done a head first sizes levels b d last i c cleared t none stored =

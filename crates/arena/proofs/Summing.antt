@@ -10,13 +10,13 @@ use lib.Seq.{getD-set-same, getD-set-other}
 use Rattle.arena.specs.Arena.{word, level, pWord, adjust}
 use Rattle.arena.specs.Lazy.{sumFrom}
 use Rattle.arena.specs.Chain.{pUnder, after}
-use Rattle.arena.specs.Turning.{Summable, Enterable, Suffixes}
+use Rattle.arena.specs.Turning.{Summable, Enterable, Suffixes, TrueP, Renewed}
 use Rattle.arena.proofs.Cases.{lt-or-ge, eq-or-ne}
 use Rattle.arena.proofs.SumLaws.{sum-none, sum-first, sum-agree, sum-zero}
 use Rattle.arena.proofs.Frames.{after-in, after-out}
 
 -- The stored p and the sum from the level up are the true p.
-pub suffix-p : (a : List ℕ) (r : ℕ) (sums : List ℕ) → Summable a r sums → (l v p s q : ℕ) → v ≡ word a r 0 → l ≡ v → p ≡ word a r 2 → s ≡ getD sums l 0 → q ≡ (p + s) % 2 ^ 32 → (f : ℕ → ℕ) → Suffixes f sums → q ≡ pUnder a f r
+pub suffix-p : (a : List ℕ) (r : ℕ) (sums : List ℕ) → Summable a r sums → (l v p s q : ℕ) → v ≡ word a r 0 → l ≡ v → p ≡ word a r 2 → s ≡ getD sums l 0 → q ≡ (p + s) % 2 ^ 32 → TrueP a r sums q
 unfolding pUnder
 suffix-p a r sums can l v p s q v-is l-is p-is s-is q-is f t =
     let low = can .low in
@@ -148,6 +148,6 @@ renewing-more a r sums left l can s less x v w x-is v-is w-is =
           (v-is ∙ sym (after-in a f r (l - 1) (omega arith))) w-is;
     }
 
-pub renewing-done : (a : List ℕ) (r : ℕ) (sums left : List ℕ) (l : ℕ) → Summable a r sums → Renewing a r sums left l → l ≤ 1 → (f : ℕ → ℕ) → Suffixes f sums → Suffixes (after a f r) left
+pub renewing-done : (a : List ℕ) (r : ℕ) (sums left : List ℕ) (l : ℕ) → Summable a r sums → Renewing a r sums left l → l ≤ 1 → Renewed a r sums left
 renewing-done a r sums left l can s done f t =
     record { nine = s .long ∙ can .nine; at = λ i low high. s .held f t .at i (omega arith) low high }

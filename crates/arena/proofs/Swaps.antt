@@ -8,7 +8,7 @@ use lib.ListN.{length}
 use Rattle.arena.specs.Arena.{stride, word, level, mWord, pWord}
 use Rattle.arena.specs.Chain.{Has, put, All, pUnder, after, trues, Same}
 use Rattle.arena.specs.Building.{Hooked, Built, Fresh, Prepended}
-use Rattle.arena.specs.Turning.{Suffixes, swapped, TakenOver, Turnable1}
+use Rattle.arena.specs.Turning.{Suffixes, swapped, TakenOver, Turnable1, TrueP, Renewed}
 use Rattle.arena.proofs.PutLaws.{length-put, word-same, word-other-record, word-other-field, put-swap, same-trans}
 use Rattle.arena.proofs.Frames.{all-map, same-value, built-frame, under-frame, trues-frame}
 use Rattle.arena.proofs.Summing.{passed-kept}
@@ -157,7 +157,7 @@ module _ (a : List ℕ) (r p m last : ℕ) (b c d : List ℕ) (first : b ≡ put
         summable = record { has = omega arith; low = omega arith; high = omega arith; nine = sum .nine };
       }
 
-  module _ (sums : List ℕ) (p-is : (f : ℕ → ℕ) → Suffixes f sums → p ≡ pUnder a f r) (m-is : m ≡ word a r 1) (f : ℕ → ℕ) (s : Suffixes f sums) where
+  module _ (sums : List ℕ) (p-is : TrueP a r sums p) (m-is : m ≡ word a r 1) (f : ℕ → ℕ) (s : Suffixes f sums) where
     stored : d ≡ put (swapped a f r) r 3 last
     unfolding swapped
     stored = let p-here = p-is f s in cc
@@ -167,7 +167,7 @@ module _ (a : List ℕ) (r p m last : ℕ) (b c d : List ℕ) (first : b ≡ put
         subst (λ (l : List ℕ). Hooked 1 (level a r) l h r e) stored
         (subst (λ (n : ℕ). Hooked 1 n d h r e) stored-level hooks)
 
-    pub stored-passed : (left : List ℕ) → ((g : ℕ → ℕ) → Suffixes g sums → Suffixes (after d g r) left) → Suffixes (after a f r) left
+    pub stored-passed : (left : List ℕ) → Renewed d r sums left → Suffixes (after a f r) left
     stored-passed left passed =
         passed-kept a d f r left stored-level
         (λ k few. stored-field (11 + k) (λ e. omega arith) (λ e. omega arith) (λ e. omega arith) (omega arith)) (passed f s)

@@ -8,7 +8,7 @@ use lib.ListN.{length, getD}
 use Rattle.arena.specs.Arena.{stride, word, level, mWord, adjust}
 use Rattle.arena.specs.Chain.{Has, put, All, Linked, after, trues, Same}
 use Rattle.arena.specs.Building.{Cleared}
-use Rattle.arena.specs.Turning.{Suffixes, Enterable, TakenOver, Turnable1, Turnable, Turned}
+use Rattle.arena.specs.Turning.{Suffixes, Enterable, TakenOver, Turnable1, Turnable, Turned, Renewed}
 use Rattle.arena.proofs.PutLaws.{length-put, word-other-record, word-other-field, same-trans}
 use Rattle.arena.proofs.Frames.{all-map, all-refl, all-both, map-same, same-shape, same-value, linked-frame, trues-frame}
 use Rattle.arena.proofs.ClearLaws.{cleared-first}
@@ -162,7 +162,7 @@ module _ (a : List ℕ) (from to : ℕ) (b : List ℕ) (last : ℕ) (sums : List
             let y = count-is 512 (put c to 3 next) (left .qs) n (new .chain) (new .next-is) (new .few) in
             omega arith
 
-        pub turning-more : (sums' : List ℕ) → ((f : ℕ → ℕ) → Suffixes f sums → Suffixes (after b f r) sums') → length c ≡ length b → n < 4_294_967_296 → Turning a from to c next sums' n
+        pub turning-more : (sums' : List ℕ) → Renewed b r sums sums' → length c ≡ length b → n < 4_294_967_296 → Turning a from to c next sums' n
         turning-more sums' passed long fits =
             record {
               rs = left .rs;
@@ -197,32 +197,33 @@ moved-all a from to b last sums next t e =
     (subst (λ (qs : List ℕ). Moved d (t .f) to (t .ds) qs d) (sym (left-none d to (t .ds) (t .qs) next (t .ready) e))
     (moved-none d (t .f) to (t .ds) (t .ready .built)))
 
-pub turning-done : (a : List ℕ) (from to : ℕ) (b d : List ℕ) (last : ℕ) (sums : List ℕ) (next : ℕ) → ((i : ℕ) → getD a i 0 < 4_294_967_296) → Cleared a to b → Turning b from to d last sums next → next ≡ 0 → (c : List ℕ) → c ≡ put d to 3 last → (rs : List ℕ) → Turnable a from to rs → Turned a from to rs c
-unfolding trues word
-turning-done a from to b d last sums next small cleared t e c stored rs k =
-    let linked = linked-cleared a from to rs b k cleared in
-    let all : Moved b (adjust b from) to [] (t .rs) c = subst (Moved b (adjust b from) to [] (t .rs)) (sym stored) (moved-all b from to d last sums next t e) in
-    let m : Moved b (adjust b from) to [] rs c = subst (λ (ss : List ℕ). Moved b (adjust b from) to [] ss c) (one-list b from (t .rs) rs (t .linked) linked) all in
-    let same = rest-same a from to rs b k cleared in
-    let head = head-same a from to rs b k cleared in
-    record {
-      long = m .long ∙ cleared .long;
-      outside = λ x p q. same-trans a b c x (cleared .outside x p) (m .outside x p q tt);
-      built = m .built;
-      levels = all-both rs (λ x (p : level c x ≡ level b x) (q : Same a b x). p ∙ q .at 0 (omega arith)) (m .levels) same;
-      m-is =
-          m .m-is
-          ∙ trues-frame a b (adjust a from) (adjust b from) rs (λ k w. head .at (11 + k) (omega arith))
-          (all-map rs (same-value a b) same);
-      p-is = m .p-is ∙ map-same (mWord b) (mWord a) rs (all-map rs (λ x (q : Same a b x). q .at 1 (omega arith)) same);
-      true-p =
-          m .true-p
-          ∙ ap (λ (l : List ℕ). reverseAux l [])
-          (map-same (λ x. mWord b x % 2 ^ 32) (mWord a) rs
-          (all-map rs
-          (λ x (q : Same a b x).
-          let k : mWord b x ≡ mWord a x = q .at 1 (omega arith) in
-          let s = small (stride * x + 1) in
-          omega arith)
-          same));
-    }
+module _ (a : List ℕ) (from to : ℕ) (b d : List ℕ) (last : ℕ) (sums : List ℕ) (next : ℕ) (small : (i : ℕ) → getD a i 0 < 4_294_967_296) where
+  pub turning-done : Cleared a to b → Turning b from to d last sums next → next ≡ 0 → (c : List ℕ) → c ≡ put d to 3 last → (rs : List ℕ) → Turnable a from to rs → Turned a from to rs c
+  unfolding trues word
+  turning-done cleared t e c stored rs k =
+      let linked = linked-cleared a from to rs b k cleared in
+      let all : Moved b (adjust b from) to [] (t .rs) c = subst (Moved b (adjust b from) to [] (t .rs)) (sym stored) (moved-all b from to d last sums next t e) in
+      let m : Moved b (adjust b from) to [] rs c = subst (λ (ss : List ℕ). Moved b (adjust b from) to [] ss c) (one-list b from (t .rs) rs (t .linked) linked) all in
+      let same = rest-same a from to rs b k cleared in
+      let head = head-same a from to rs b k cleared in
+      record {
+        long = m .long ∙ cleared .long;
+        outside = λ x p q. same-trans a b c x (cleared .outside x p) (m .outside x p q tt);
+        built = m .built;
+        levels = all-both rs (λ x (p : level c x ≡ level b x) (q : Same a b x). p ∙ q .at 0 (omega arith)) (m .levels) same;
+        m-is =
+            m .m-is
+            ∙ trues-frame a b (adjust a from) (adjust b from) rs (λ k w. head .at (11 + k) (omega arith))
+            (all-map rs (same-value a b) same);
+        p-is = m .p-is ∙ map-same (mWord b) (mWord a) rs (all-map rs (λ x (q : Same a b x). q .at 1 (omega arith)) same);
+        true-p =
+            m .true-p
+            ∙ ap (λ (l : List ℕ). reverseAux l [])
+            (map-same (λ x. mWord b x % 2 ^ 32) (mWord a) rs
+            (all-map rs
+            (λ x (q : Same a b x).
+            let k : mWord b x ≡ mWord a x = q .at 1 (omega arith) in
+            let s = small (stride * x + 1) in
+            omega arith)
+            same));
+      }

@@ -5,13 +5,21 @@ use Prim.Native.Nat.{ℕ, _%_, _^_, _≤_}
 use lib.ListN.{length, getD}
 use Rattle.arena.specs.Arena.{level, mWord, pWord, adjust}
 use Rattle.arena.specs.Lazy.{sumFrom}
-use Rattle.arena.specs.Chain.{Has, put, All, Away, Linked, pUnder, trues, Same}
+use Rattle.arena.specs.Chain.{Has, put, All, Away, Linked, pUnder, after, trues, Same}
 use Rattle.arena.specs.Building.{Hooked, Hookable, Built}
 
 -- The running sums f as nine words: word l is the sum over the links from l up. Word 0 is not said, since a record has a level of 1 or more and its true p counts no link below it.
 pub record Suffixes (f : ℕ → ℕ) (sums : List ℕ) : Type 0 where
   pub nine : length sums ≡ 9
   pub at : (l : ℕ) → 1 ≤ l → l ≤ 8 → getD sums l 0 ≡ sumFrom f l 8 % 2 ^ 32
+
+-- v is the true p of record r, which the sums s lead to.
+abbrev pub TrueP : List ℕ → ℕ → List ℕ → ℕ → Type 0
+TrueP a r s v = (f : ℕ → ℕ) → Suffixes f s → v ≡ pUnder a f r
+
+-- The sums t are the sums s, renewed by the adjusts of record r.
+abbrev pub Renewed : List ℕ → ℕ → List ℕ → List ℕ → Type 0
+Renewed a r s t = (f : ℕ → ℕ) → Suffixes f s → Suffixes (after a f r) t
 
 -- A record that has a level, and as many sums as are needed for it.
 pub record Summable (a : List ℕ) (r : ℕ) (sums : List ℕ) : Type 0 where

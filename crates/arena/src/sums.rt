@@ -1,17 +1,14 @@
 // The running sums of a walk along a list: for each link the adjust of the last record passed that has it. They are held
 // as sums from a link up, so that a true p is one addition.
-ghost use mathlib.Core.Path.{_≡_};
-ghost use Prim.Native.Nat.{ℕ};
 ghost use Rattle.arena.specs.Arena.{adjust};
-ghost use Rattle.arena.specs.Chain.{pUnder, after};
-ghost use Rattle.arena.specs.Turning.{Summable, Enterable, Suffixes};
+ghost use Rattle.arena.specs.Turning.{Summable, Enterable, Suffixes, TrueP, Renewed};
 use crate::words::get;
 use crate::words::wide;
 
 // The true p of a record that the sums lead to: what it stores and the sum from its level up.
 pub fn true_p(arena: &[u32], r: usize, sums: &[u32]) -> u32
     requires { ⌜ Summable (now arena) r (now sums) ⌝ }
-    ensures { λ v. ⌜ ((f : ℕ → ℕ) → Suffixes f (now (sums .entry)) → v ≡ pUnder (now (arena .entry)) f r) ⌝ }
+    ensures { λ v. ⌜ TrueP (now (arena .entry)) r (now (sums .entry)) v ⌝ }
 {
     let level = wide(get(arena, r, 0));
     std::num::wrapping_add_u32(get(arena, r, 2), sums[level])
@@ -35,7 +32,7 @@ pub fn enter(arena: &[u32], head: usize, sums: &mut [u32])
 // from it up is kept.
 pub fn pass(arena: &[u32], r: usize, sums: &mut [u32])
     requires { ⌜ Summable (now arena) r (now sums) ⌝ }
-    ensures { λ _. ⌜ ((f : ℕ → ℕ) → Suffixes f (now (sums .entry)) → Suffixes (after (now (arena .entry)) f r) (now (sums .exit))) ⌝ }
+    ensures { λ _. ⌜ Renewed (now (arena .entry)) r (now (sums .entry)) (now (sums .exit)) ⌝ }
 {
     let mut l = wide(get(arena, r, 0));
     while 1 < l {

@@ -4,7 +4,7 @@ ghost use Prim.Native.Nat.{ℕ};
 ghost use Rattle.arena.specs.Arena.{level};
 ghost use Rattle.arena.specs.Chain.{after};
 ghost use Rattle.arena.specs.Building.{Hooked};
-ghost use Rattle.arena.specs.Turning.{Suffixes, TakenOver, Turnable1, Turnable, Turned};
+ghost use Rattle.arena.specs.Turning.{Suffixes, TakenOver, Turnable1, Turnable, Turned, Renewed};
 use crate::empty::clear_head;
 use crate::prepend::hook;
 use crate::sums::enter;
@@ -17,7 +17,7 @@ use crate::words::wide;
 fn turn_links(arena: &mut [u32], to: usize, r: usize, sums: &mut [u32])
     requires { ⌜ Turnable1 (now arena) to r (now sums) ⌝ }
     ensures { λ _. ⌜ Hooked 1 (level (now (arena .entry)) r) (now (arena .entry)) to r (now (arena .exit)) ⌝ }
-    ensures { λ _. ⌜ ((f : ℕ → ℕ) → Suffixes f (now (sums .entry)) → Suffixes (after (now (arena .entry)) f r) (now (sums .exit))) ⌝ }
+    ensures { λ _. ⌜ Renewed (now (arena .entry)) r (now (sums .entry)) (now (sums .exit)) ⌝ }
 {
     let mut l = wide(get(arena, r, 0));
     while 1 < l {
@@ -33,7 +33,7 @@ fn turn_links(arena: &mut [u32], to: usize, r: usize, sums: &mut [u32])
 fn turn_record(arena: &mut [u32], to: usize, r: usize, last: u32, sums: &mut [u32])
     requires { ⌜ Turnable1 (now arena) to r (now sums) ⌝ }
     ensures { λ _. ⌜ ((f : ℕ → ℕ) → Suffixes f (now (sums .entry)) → TakenOver (now (arena .entry)) f to r last (now (arena .exit))) ⌝ }
-    ensures { λ _. ⌜ ((f : ℕ → ℕ) → Suffixes f (now (sums .entry)) → Suffixes (after (now (arena .entry)) f r) (now (sums .exit))) ⌝ }
+    ensures { λ _. ⌜ Renewed (now (arena .entry)) r (now (sums .entry)) (now (sums .exit)) ⌝ }
 {
     let m = get(arena, r, 1);
     let p = true_p(arena, r, sums);

@@ -17,13 +17,13 @@ use Rattle.maxplus.specs.declared.read_list.Item.{Item as Read}
 use Rattle.arena.specs.Arena.{word, level, mWord, adjust}
 use Rattle.arena.specs.Lazy.{lastWith, trueP, held, lazyList}
 use Rattle.arena.specs.Chain.{pUnder, after}
-use Rattle.arena.specs.Turning.{Summable, Enterable, Suffixes}
+use Rattle.arena.specs.Turning.{Summable, Enterable, Suffixes, TrueP, Renewed}
 use Rattle.arena.proofs.Cases.{lt-or-ge}
 use Rattle.arena.proofs.SumLaws.{sum-frame}
 use Rattle.arena.proofs.Frames.{after-in, after-out}
 use Rattle.arena.proofs.ListLaws.{held-length}
 use Rattle.maxplus.specs.Read.{readItem, reading}
-use Rattle.maxplus.specs.Pass.{refusedReading, readAt, Decides, Stands, Are, Passed, Renewed, Follows}
+use Rattle.maxplus.specs.Pass.{refusedReading, readAt, Decides, Stands, Are, Passed, Follows}
 use Rattle.maxplus.proofs.Decisions.{decided, refuted}
 use Rattle.maxplus.proofs.Following.{lastWord, word-here, word-past, due, Rest, Meets, Turn, turn, turn-back, rest-full, rest-over, rest-none}
 use Rattle.maxplus.proofs.Answering.{lazy-rest, rest-lazy, no-list, list-read}
@@ -162,7 +162,7 @@ module _ (a : List ℕ) (place : ℕ) (e s : List ℕ) (next count : ℕ) (befor
         refuted b (Are e (level a next) next) d h (λ k low high. w .dues k low (omega arith) ∙ meets .links k high))
         q
 
-    module _ (x : Read) (has-m : x .m ≡ mWord a next) (has-p : (f : ℕ → ℕ) → Suffixes f s → x .p ≡ pUnder a f next) where
+    module _ (x : Read) (has-m : x .m ≡ mWord a next) (has-p : TrueP a next s (x .p)) where
       true-p : x .p ≡ trueP a 0 (w .passed) next
       unfolding trueP pUnder
       true-p = has-p (adjusts a (w .passed)) (w .sums)

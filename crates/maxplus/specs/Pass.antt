@@ -7,7 +7,6 @@ use lib.Dec.{leb}
 use lib.ListN.{length, getD}
 use Rattle.arena.specs.Arena.{level, forward}
 use Rattle.arena.specs.Chain.{after}
-use Rattle.arena.specs.Turning.{Suffixes}
 use Rattle.maxplus.specs.declared.Reading.{Reading}
 
 -- A call that is refused.
@@ -39,10 +38,6 @@ pub record Passed (a : List ℕ) (r : ℕ) (first l : List ℕ) : Type 0 where
   pub long : length l ≡ length first
   pub here : (k : ℕ) → 1 ≤ k → k < level a r → getD l k 0 ≡ forward a r k
   pub past : (k : ℕ) → level a r ≤ k → getD l k 0 ≡ getD first k 0
-
--- The sums t are the sums s, renewed by the adjusts of record r.
-abbrev pub Renewed : List ℕ → ℕ → List ℕ → List ℕ → Type 0
-Renewed a r s t = (f : ℕ → ℕ) → Suffixes f s → Suffixes (after a f r) t
 
 -- An item (n, q) may follow an item (m, p), where there is one: where count is not 0.
 abbrev pub Follows : ℕ → ℕ → ℕ → ℕ → ℕ → Type 0

@@ -6,8 +6,8 @@ ghost use Prim.Native.Nat.{_≤_};
 ghost use lib.ListN.{length};
 ghost use Rattle.arena.specs.Arena.{level};
 ghost use Rattle.arena.specs.Chain.{Has};
-ghost use Rattle.arena.specs.Turning.{Summable};
-ghost use Rattle.maxplus.specs.Pass.{Decides, Are, Passed, Renewed};
+ghost use Rattle.arena.specs.Turning.{Summable, Renewed};
+ghost use Rattle.maxplus.specs.Pass.{Decides, Are, Passed};
 use arena::words::get;
 use arena::words::wide;
 

@@ -1,11 +1,10 @@
 // The reading call: one pass over the list that an arena holds.
 ghost use mathlib.Core.Path.{_≡_};
 ghost use mathlib.Core.Bool.{cond};
-ghost use Prim.Native.Nat.{ℕ, _≤_};
+ghost use Prim.Native.Nat.{_≤_};
 ghost use lib.ListN.{length};
 ghost use Rattle.arena.specs.Arena.{level, mWord};
-ghost use Rattle.arena.specs.Chain.{pUnder};
-ghost use Rattle.arena.specs.Turning.{Summable, Suffixes};
+ghost use Rattle.arena.specs.Turning.{Summable, TrueP};
 ghost use Rattle.maxplus.specs.Read.{readItem, reading};
 ghost use Rattle.maxplus.specs.Pass.{refusedReading, readAt, Decides, Stands, Follows};
 use crate::Reading;
@@ -54,7 +53,7 @@ fn may_stand(arena: &[u32], count: u32, r: usize) -> bool
 fn item_at(arena: &[u32], r: usize, sums: &[u32]) -> Item
     requires { ⌜ Summable (now arena) r (now sums) ⌝ }
     ensures { λ z. ⌜ z .m ≡ mWord (now (arena .entry)) r ⌝ }
-    ensures { λ z. ⌜ ((f : ℕ → ℕ) → Suffixes f (now (sums .entry)) → z .p ≡ pUnder (now (arena .entry)) f r) ⌝ }
+    ensures { λ z. ⌜ TrueP (now (arena .entry)) r (now (sums .entry)) (z .p) ⌝ }
 {
     Item {
         m: get(arena, r, 1),

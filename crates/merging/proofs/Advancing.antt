@@ -9,7 +9,6 @@ use borrow.Author.Tests.{le-leb, lt-leb}
 use Rattle.arena.specs.Arena.{level, mWord, adjust}
 use Rattle.arena.specs.Lazy.{lastWith}
 use Rattle.arena.specs.Chain.{wrap, All, Away, Linked, pUnder, after, trues, leaving, Same, Shape, Value}
-use Rattle.arena.specs.Turning.{Suffixes}
 use Rattle.arena.proofs.Cases.{lt-or-ge}
 use Rattle.arena.proofs.ListLaws.{all-left, all-right, last-none, last-append, last-all, last-inside, leaving-last}
 use Rattle.arena.proofs.Summing.{suffixes-agree}
@@ -17,7 +16,7 @@ use Rattle.arena.proofs.PutLaws.{same-trans}
 use Rattle.arena.proofs.Frames.{all-map, all-refl, all-both, same-value, next-frame, linked-frame, trues-frame, last-frame}
 use Rattle.merging.specs.Cut.{front, LinkCount, CutAt}
 use Rattle.merging.specs.Open.{Relinkable, Relinked}
-use Rattle.merging.specs.Cached.{Cached, renewed}
+use Rattle.merging.specs.Cached.{Cached, renewed, RenewedBelow}
 use Rattle.merging.specs.Settled.{lastSums, cutSums, Ready, Settled}
 use Rattle.merging.specs.Advance.{behind, Movable, Moved}
 use Rattle.merging.proofs.CacheLaws.{renewed-in, renewed-out}
@@ -216,7 +215,7 @@ module _ (a : List ℕ) (h hc key : ℕ) (cs : List ℕ) (r : ℕ) (rs cutc : Li
             (λ is. last-inside a k (λ x. x ≡ h → ⊥) h fr (l .with-link k less) head-off (sym (c .at k less) ∙ is))
 
         -- So the sums that are kept are right again once those below link n are renewed.
-        pub moved-cached : (heads lasts heads' lasts' : List ℕ) → Cached a h cutc heads lasts → ((f : ℕ → ℕ) → Suffixes f heads → Suffixes (renewed (cutSums sums) n f) heads') → ((f : ℕ → ℕ) → Suffixes f lasts → Suffixes (renewed (lastSums b cut) n f) lasts') → Cached d h cutd heads' lasts'
+        pub moved-cached : (heads lasts heads' lasts' : List ℕ) → Cached a h cutc heads lasts → RenewedBelow (cutSums sums) n heads heads' → RenewedBelow (lastSums b cut) n lasts lasts' → Cached d h cutd heads' lasts'
         moved-cached heads lasts heads' lasts' k renews-head renews-ends =
             record {
               head =

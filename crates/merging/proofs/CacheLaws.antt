@@ -11,20 +11,21 @@ use Rattle.arena.specs.Lazy.{sumFrom}
 use Rattle.arena.specs.Turning.{Suffixes}
 use Rattle.arena.proofs.SumLaws.{sum-agree}
 use Rattle.arena.proofs.Summing.{HeldFrom, held-more, suffixes-agree}
-use Rattle.merging.specs.Cached.{renewed, MakesUp}
+use Rattle.merging.specs.Cached.{renewed, MakesUp, RenewedBelow}
 
 pub add-both : (c x y : ℕ) → x % 2 ^ 32 ≡ y % 2 ^ 32 → (c + x) % 2 ^ 32 ≡ (c + y) % 2 ^ 32
 add-both c x y e =
     sym (add-mod-mod c x (2 ^ 32)) ∙ ap (λ (n : ℕ). (c + n) % 2 ^ 32) e ∙ add-mod-mod c y (2 ^ 32)
 
 -- The carry to a level, as the code takes it: the difference of the two sums, and q.
-pub makes-up : (l q d x y v : ℕ) (sums other : List ℕ) → (1 ≤ l) × (l ≤ 8) × (length sums ≡ 9) × (length other ≡ 9) → x ≡ getD sums l 0 → y ≡ getD other l 0 → (d + y) % 2 ^ 32 ≡ x → v ≡ (q + d) % 2 ^ 32 → (f g : ℕ → ℕ) → Suffixes f sums → Suffixes g other → MakesUp f g l q v
-makes-up l q d x y v sums other p x-is y-is d-is v-is f g s t =
-    let above : (d + sumFrom g l 8) % 2 ^ 32 ≡ sumFrom f l 8 % 2 ^ 32 = sym (add-mod-mod d (sumFrom g l 8) (2 ^ 32)) ∙ ap (λ (z : ℕ). (d + z) % 2 ^ 32) (sym (y-is ∙ t .at l (p .0) (p .1))) ∙ d-is ∙ x-is ∙ s .at l (p .0) (p .1) in
-    let sum : q + d + sumFrom g l 8 ≡ q + (d + sumFrom g l 8) = omega arith in
-    ap (λ (n : ℕ). (n + sumFrom g l 8) % 2 ^ 32) v-is ∙ mod-add-mod (q + d) (2 ^ 32) (sumFrom g l 8)
-    ∙ ap (λ (n : ℕ). n % 2 ^ 32) sum
-    ∙ add-both q (d + sumFrom g l 8) (sumFrom f l 8) above
+module _ (l q d x y v : ℕ) (sums other : List ℕ) (p : (1 ≤ l) × (l ≤ 8) × (length sums ≡ 9) × (length other ≡ 9)) where
+  pub makes-up : x ≡ getD sums l 0 → y ≡ getD other l 0 → (d + y) % 2 ^ 32 ≡ x → v ≡ (q + d) % 2 ^ 32 → (f g : ℕ → ℕ) → Suffixes f sums → Suffixes g other → MakesUp f g l q v
+  makes-up x-is y-is d-is v-is f g s t =
+      let above : (d + sumFrom g l 8) % 2 ^ 32 ≡ sumFrom f l 8 % 2 ^ 32 = sym (add-mod-mod d (sumFrom g l 8) (2 ^ 32)) ∙ ap (λ (z : ℕ). (d + z) % 2 ^ 32) (sym (y-is ∙ t .at l (p .0) (p .1))) ∙ d-is ∙ x-is ∙ s .at l (p .0) (p .1) in
+      let sum : q + d + sumFrom g l 8 ≡ q + (d + sumFrom g l 8) = omega arith in
+      ap (λ (n : ℕ). (n + sumFrom g l 8) % 2 ^ 32) v-is ∙ mod-add-mod (q + d) (2 ^ 32) (sumFrom g l 8)
+      ∙ ap (λ (n : ℕ). n % 2 ^ 32) sum
+      ∙ add-both q (d + sumFrom g l 8) (sumFrom f l 8) above
 
 module _ (g : ℕ → ℕ) (n : ℕ) (f : ℕ → ℕ) (k : ℕ) where
   pub renewed-in : k < n → renewed g n f k ≡ g k
@@ -66,6 +67,6 @@ renewing-more g n sums left l top high less s x v w x-is v-is w-is =
           (v-is ∙ sym (renewed-in g n f (l - 1) (omega arith))) w-is;
     }
 
-pub renewing-done : (g : ℕ → ℕ) (n : ℕ) (sums left : List ℕ) (l : ℕ) → Renewing g n sums left l → l ≤ 1 → (f : ℕ → ℕ) → Suffixes f sums → Suffixes (renewed g n f) left
+pub renewing-done : (g : ℕ → ℕ) (n : ℕ) (sums left : List ℕ) (l : ℕ) → Renewing g n sums left l → l ≤ 1 → RenewedBelow g n sums left
 renewing-done g n sums left l s done f t =
     record { nine = s .nine; at = λ i low high. s .held f t .at i (omega arith) low high }

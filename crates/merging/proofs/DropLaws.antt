@@ -13,7 +13,7 @@ use Rattle.arena.specs.Chain.{Has, put, All, Member, Linked, after, Same}
 use Rattle.arena.proofs.Cases.{lt-or-ge, eq-or-ne, last-or-below}
 use Rattle.arena.proofs.PutLaws.{length-put, word-same, word-other-record, word-other-field, same-put, same-refl, same-trans}
 use Rattle.arena.proofs.Frames.{next-here, next-past, all-map, same-shape, same-value, next-frame, chain-frame, trues-frame}
-use Rattle.arena.specs.Turning.{Suffixes}
+use Rattle.arena.specs.Turning.{Renewed}
 use Rattle.merging.specs.Dropping.{handed, handedOver, Dropped, DroppedTied}
 
 -- One link.
@@ -221,7 +221,7 @@ handing-done a₀ a h r n k g done e f x rs l =
     subst (λ (b : List ℕ). Dropped a₀ b h x rs) (sym whole) (dropped a₀ h x rs l)
 
 -- The two ways of dropping where the m of a record is the key.
-pub tied-drops : (a b : List ℕ) (h r last key m : ℕ) (sums sums' : List ℕ) → m ≡ word a last 1 → m ≡ key → ((x : ℕ) (rs : List ℕ) → Linked a h (x ∷ rs) → Dropped a b h x rs) → ((f : ℕ → ℕ) → Suffixes f sums → Suffixes (after a f r) sums') → DroppedTied a b h r last key sums sums'
+pub tied-drops : (a b : List ℕ) (h r last key m : ℕ) (sums sums' : List ℕ) → m ≡ word a last 1 → m ≡ key → ((x : ℕ) (rs : List ℕ) → Linked a h (x ∷ rs) → Dropped a b h x rs) → Renewed a r sums sums' → DroppedTied a b h r last key sums sums'
 tied-drops a b h r last key m sums sums' m-is same drop pass =
     record {
       drops = λ e. drop;

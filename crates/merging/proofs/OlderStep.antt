@@ -8,8 +8,8 @@ use lib.ListN.{length, getD}
 use Rattle.slicing.specs.Recorded.{Recorded}
 use Rattle.arena.specs.Arena.{word, level, mWord, adjust}
 use Rattle.arena.specs.Lazy.{lastWith}
-use Rattle.arena.specs.Chain.{Has, Away, Member, Linked, pUnder, after}
-use Rattle.arena.specs.Turning.{Suffixes, Summable}
+use Rattle.arena.specs.Chain.{Has, All, Away, Member, Linked, pUnder, after}
+use Rattle.arena.specs.Turning.{Summable, Renewed}
 use Rattle.arena.proofs.ListLaws.{last-all, all-append}
 use Rattle.merging.specs.Cut.{front}
 use Rattle.merging.specs.Settled.{lastSums}
@@ -99,12 +99,14 @@ module _ (a : List ℕ) (ho hn v : ℕ) (ends : List ℕ) (p : OlderReady a ho h
         tied = record { first = p .3; rest = p .4; linked = newer-linked; summable = passed-summable; has = end-has }
 
         -- And after the newer list's first record left.
-        pub dropped-kept : (c newers' : List ℕ) → ((r : ℕ) (rs : List ℕ) → Linked b hn (r ∷ rs) → Dropped b c hn r rs) → ((f : ℕ → ℕ) → Suffixes f newers → Suffixes (after b f v) newers') → Kept c ho hn ends' olders' newers' lasts'
+        pub dropped-kept : (c newers' : List ℕ) → ((r : ℕ) (rs : List ℕ) → Linked b hn (r ∷ rs) → Dropped b c hn r rs) → Renewed b v newers newers' → Kept c ho hn ends' olders' newers' lasts'
         dropped-kept c newers' drop passed =
             let lists = p .7 .waits .lists in
             let now-kept = older-kept in
             let f = drop (p .3) (p .4) newer-linked in
-            let off : (x : ℕ) → x < 8 → getD ends' x 0 ≡ hn → ⊥ = λ i few. subst (λ (x : ℕ). x ≡ hn → ⊥) (sym (older-moved .ends .at i few)) (last-all b i (λ x. x ≡ hn → ⊥) (p .0) result (λ e. lists .newer-result (sym e)) (all-append (λ x. x ≡ hn → ⊥) (p .5) (front a (mWord a (p .3)) (p .1 ∷ p .2)) (lists .newer-off-result) off-front)) in
+            let other : All (λ x. x ≡ hn → ⊥) result = all-append (λ x. x ≡ hn → ⊥) (p .5) (front a (mWord a (p .3)) (p .1 ∷ p .2)) (lists .newer-off-result) off-front in
+            let off : (i : ℕ) → i < 8 → getD ends' i 0 ≡ hn → ⊥ =
+            λ i few. subst (λ (x : ℕ). x ≡ hn → ⊥) (sym (older-moved .ends .at i few)) (last-all b i (λ x. x ≡ hn → ⊥) (p .0) result (λ e. lists .newer-result (sym e)) other) in
             record {
               older =
                   suffixes-agree (adjust b ho) (adjust c ho) olders'

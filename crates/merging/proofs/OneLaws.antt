@@ -9,7 +9,6 @@ use lib.ListN.{length, getD, replicate, getD-replicate}
 use Rattle.arena.specs.Arena.{word, level, pWord, forward, adjust}
 use Rattle.arena.specs.Lazy.{nextWith, lastWith, sumFrom}
 use Rattle.arena.specs.Chain.{Has, put, wrap, All, pUnder, trues}
-use Rattle.arena.specs.Turning.{Suffixes}
 use Rattle.arena.proofs.Frames.{next-here}
 use Rattle.arena.proofs.ListLaws.{last-here}
 use Rattle.arena.proofs.PutLaws.{word-other-field}
@@ -17,7 +16,7 @@ use Rattle.merging.specs.Cut.{front, LinkCount, CutAt, passes, Reachable
 use Rattle.merging.specs.Settled.{headSums, lastSums, cutSums, Settled}
 use Rattle.merging.specs.Open.{Relinkable, Relinked}
 use Rattle.merging.specs.Advance.{behind, Movable, Moved}
-use Rattle.merging.specs.Cached.{Cached, renewed, MakesUp}
+use Rattle.merging.specs.Cached.{Cached, MakesUp, RenewedBelow}
 use Rattle.merging.proofs.SearchLaws.{front-in}
 use Rattle.merging.proofs.Passing.{next-reach, front-none}
 use Rattle.merging.proofs.Raising.{Raised, p-raised}
@@ -168,5 +167,5 @@ module _ (a : List ℕ) (h hc key : ℕ) (cs : List ℕ) (r : ℕ) (rs ends : Li
               subst (λ (y : ℕ). Moved a d h hc q cs (front a key (y ∷ rs)) (behind a key (y ∷ rs)) ends') (first-is a h hc key cs r rs ends w x x-is)
               (moved a h hc key cs x rs ends first n counted cut found is-cut q b settled d ends' e)
 
-          pub first-cached : (heads lasts heads' lasts' : List ℕ) → Cached a h ends heads lasts → ((f : ℕ → ℕ) → Suffixes f heads → Suffixes (renewed (cutSums found) n f) heads') → ((f : ℕ → ℕ) → Suffixes f lasts → Suffixes (renewed (lastSums b cut) n f) lasts') → Cached d h ends' heads' lasts'
+          pub first-cached : (heads lasts heads' lasts' : List ℕ) → Cached a h ends heads lasts → RenewedBelow (cutSums found) n heads heads' → RenewedBelow (lastSums b cut) n lasts lasts' → Cached d h ends' heads' lasts'
           first-cached = moved-cached a h hc key cs x rs ends first n counted cut found is-cut q b settled d ends' e

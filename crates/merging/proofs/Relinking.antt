@@ -7,10 +7,9 @@ use native.Mathlib.Omega.{arith}
 use lib.ListN.{length, getD, set}
 use Rattle.arena.specs.Arena.{word, adjust}
 use Rattle.arena.specs.Chain.{Has}
-use Rattle.arena.specs.Turning.{Suffixes}
-use Rattle.merging.specs.Open.{relinkOne, Relinkable, Relinked}
+use Rattle.merging.specs.Cached.{RenewedBelow}
+use Rattle.merging.specs.Open.{relinkOne, FrontReady, FrontMoved}
 use Rattle.merging.specs.Settled.{lastSums, cutSums}
-use Rattle.merging.specs.Cached.{renewed}
 use Rattle.merging.proofs.CacheLaws.{Renewing, renewing-start, renewing-more, renewing-done}
 use Rattle.merging.proofs.RelinkWords.{Rewired, Ready, Replaced, rewired-none, rewired-turn, replaced-none, replaced-turn}
 use Rattle.merging.proofs.RelinkLaws.{ready, relinked}
@@ -45,25 +44,26 @@ pub record Relinking (a₀ a : List ℕ) (h : ℕ) (cut found ends₀ ends : Lis
   pub lasts-new : Renewing (lastSums a₀ cut) n lasts₀ lasts i
 
 -- The numbers stand beside the three parts of it, for the code's indices.
-with-numbers : (a₀ a : List ℕ) (h : ℕ) (cut found ends₀ ends : List ℕ) (n i : ℕ) (sums₀ sums lasts₀ lasts : List ℕ) → 1 ≤ i → Rewiring a₀ a h cut found ends₀ ends n i → Renewing (cutSums found) n sums₀ sums i → Renewing (lastSums a₀ cut) n lasts₀ lasts i → Relinking a₀ a h cut found ends₀ ends n i sums₀ sums lasts₀ lasts
-with-numbers a₀ a h cut found ends₀ ends n i sums₀ sums lasts₀ lasts some w heads lasts-new =
-    record {
-      some = some;
-      within = w .within;
-      high = w .high;
-      cut-long = w .cut-long;
-      found-long = w .found-long;
-      ends-long = w .ends-long;
-      sums-nine = heads .nine;
-      lasts-nine = lasts-new .nine;
-      arena-kept = w .arena-kept;
-      ends-kept = w .ends-kept;
-      rewiring = w;
-      heads = heads;
-      lasts-new = lasts-new;
-    }
+module _ (a₀ a : List ℕ) (h : ℕ) (cut found ends₀ ends : List ℕ) (n i : ℕ) (sums₀ sums lasts₀ lasts : List ℕ) (some : 1 ≤ i) where
+  with-numbers : Rewiring a₀ a h cut found ends₀ ends n i → Renewing (cutSums found) n sums₀ sums i → Renewing (lastSums a₀ cut) n lasts₀ lasts i → Relinking a₀ a h cut found ends₀ ends n i sums₀ sums lasts₀ lasts
+  with-numbers w heads lasts-new =
+      record {
+        some = some;
+        within = w .within;
+        high = w .high;
+        cut-long = w .cut-long;
+        found-long = w .found-long;
+        ends-long = w .ends-long;
+        sums-nine = heads .nine;
+        lasts-nine = lasts-new .nine;
+        arena-kept = w .arena-kept;
+        ends-kept = w .ends-kept;
+        rewiring = w;
+        heads = heads;
+        lasts-new = lasts-new;
+      }
 
-pub relinking-start : (a : List ℕ) (h : ℕ) (cut found ends : List ℕ) (n : ℕ) (sums lasts : List ℕ) → (hc : ℕ) × (cs : List ℕ) × (front : List ℕ) × (back : List ℕ) × Relinkable a h hc cs front back cut found ends n → (length sums ≡ 9) × (length lasts ≡ 9) → Relinking a a h cut found ends ends n n sums sums lasts lasts
+pub relinking-start : (a : List ℕ) (h : ℕ) (cut found ends : List ℕ) (n : ℕ) (sums lasts : List ℕ) → FrontReady a h cut found ends n → (length sums ≡ 9) × (length lasts ≡ 9) → Relinking a a h cut found ends ends n n sums sums lasts lasts
 relinking-start a h cut found ends n sums lasts p nines =
     let r = p .4 in
     with-numbers a a h cut found ends ends n n sums sums lasts lasts (r .some)
@@ -139,15 +139,21 @@ module _ (a₀ a : List ℕ) (h : ℕ) (cut found ends₀ ends : List ℕ) (n i 
         let p = less in
         words .adjust-other (getD cut k 0) k (omega arith) (g .ready .to-not-head k less)
 
-pub relinking-turn : (a₀ a : List ℕ) (h : ℕ) (cut found ends₀ ends : List ℕ) (n i : ℕ) (sums₀ sums lasts₀ lasts : List ℕ) → Relinking a₀ a h cut found ends₀ ends n i sums₀ sums lasts₀ lasts → 1 < i → (b : List ℕ) → b ≡ relinkOne a h (getD ends (i - 1) 0) (getD cut (i - 1) 0) (i - 1) (getD found (i - 1) 0) → (s s' l v l' : ℕ) → s ≡ getD sums i 0 → s' ≡ (s + getD found (i - 1) 0) % 2 ^ 32 → l ≡ getD lasts i 0 → v ≡ word b (getD cut (i - 1) 0) (11 + (i - 1)) → l' ≡ (l + v) % 2 ^ 32 → Relinking a₀ b h cut found ends₀ (set ends (i - 1) (getD cut (i - 1) 0)) n (i - 1) sums₀ (set sums (i - 1) s') lasts₀ (set lasts (i - 1) l')
-relinking-turn a₀ a h cut found ends₀ ends n i sums₀ sums lasts₀ lasts g more b e s s' l v l' s-is s'-is l-is v-is l'-is =
-    let below : i ≡ suc (i - 1) = omega arith in
-    let w = g .rewiring in
-    with-numbers a₀ b h cut found ends₀ (set ends (i - 1) (getD cut (i - 1) 0)) n (i - 1) sums₀ (set sums (i - 1) s') lasts₀ (set lasts (i - 1) l')
-    (omega arith) (rewiring-turn a₀ a h cut found ends₀ ends n i (i - 1) below w b e)
-    (renewing-more (cutSums found) n sums₀ sums i (g .high) (g .within) more (g .heads) s _ s' s-is refl s'-is)
-    (renewing-more (lastSums a₀ cut) n lasts₀ lasts i (g .high) (g .within) more (g .lasts-new) l v l' l-is
-    (v-is ∙ last-adjust a₀ a h cut found ends₀ ends n i (i - 1) below w b e) l'-is)
+-- A turn at a link above 0 renews one of the head's sums and one of those of the ends: s and l, where v is the adjust of the last record in front.
+module _ (a₀ a : List ℕ) (h : ℕ) (cut found ends₀ ends : List ℕ) (n i : ℕ) (sums₀ sums lasts₀ lasts : List ℕ) (g : Relinking a₀ a h cut found ends₀ ends n i sums₀ sums lasts₀ lasts) (more : 1 < i) where
+  abbrev k : ℕ
+  k = i - 1
+
+  module _ (b : List ℕ) (e : b ≡ relinkOne a h (getD ends k 0) (getD cut k 0) k (getD found k 0)) where
+    pub relinking-turn : (s v l : ℕ) → s ≡ (getD sums i 0 + getD found k 0) % 2 ^ 32 → v ≡ word b (getD cut k 0) (11 + k) → l ≡ (getD lasts i 0 + v) % 2 ^ 32 → Relinking a₀ b h cut found ends₀ (set ends k (getD cut k 0)) n k sums₀ (set sums k s) lasts₀ (set lasts k l)
+    relinking-turn s v l s-is v-is l-is =
+        let below = stepped i more in
+        let w = g .rewiring in
+        with-numbers a₀ b h cut found ends₀ (set ends k (getD cut k 0)) n k sums₀ (set sums k s) lasts₀ (set lasts k l)
+        (omega arith) (rewiring-turn a₀ a h cut found ends₀ ends n i k below w b e)
+        (renewing-more (cutSums found) n sums₀ sums i (g .high) (g .within) more (g .heads) _ _ s refl refl s-is)
+        (renewing-more (lastSums a₀ cut) n lasts₀ lasts i (g .high) (g .within) more (g .lasts-new) _ v l refl
+        (v-is ∙ last-adjust a₀ a h cut found ends₀ ends n i k below w b e) l-is)
 
 -- The turn at link 0, at which no sum is kept, ends it.
 module _ (a₀ a : List ℕ) (h : ℕ) (cut found ends₀ ends : List ℕ) (n i : ℕ) (sums₀ sums lasts₀ lasts : List ℕ) (g : Relinking a₀ a h cut found ends₀ ends n i sums₀ sums lasts₀ lasts) (over : i ≤ 1) where
@@ -157,13 +163,13 @@ module _ (a₀ a : List ℕ) (h : ℕ) (cut found ends₀ ends : List ℕ) (n i 
   pub relinking-has : (0 < 8) × Has a h × Has a (getD ends 0 0) × Has a (getD cut 0 0)
   relinking-has = rewiring-has a₀ a h cut found ends₀ ends n i 0 lowest (g .rewiring)
 
-  pub relinking-done : (b : List ℕ) → b ≡ relinkOne a h (getD ends 0 0) (getD cut 0 0) 0 (getD found 0 0) → (hc : ℕ) (cs front back : List ℕ) → Relinkable a₀ h hc cs front back cut found ends₀ n → Relinked a₀ b h hc cs front back cut found ends₀ (set ends 0 (getD cut 0 0)) n
+  pub relinking-done : (b : List ℕ) → b ≡ relinkOne a h (getD ends 0 0) (getD cut 0 0) 0 (getD found 0 0) → FrontMoved a₀ b h cut found ends₀ (set ends 0 (getD cut 0 0)) n
   relinking-done b e hc cs front back r =
       let last = rewiring-turn a₀ a h cut found ends₀ ends n i 0 lowest (g .rewiring) b e in
       relinked a₀ h hc cs front back cut found ends₀ n r b (last .words) (set ends 0 (getD cut 0 0)) (last .replaced)
 
-  pub heads-renewed : (f : ℕ → ℕ) → Suffixes f sums₀ → Suffixes (renewed (cutSums found) n f) sums
+  pub heads-renewed : RenewedBelow (cutSums found) n sums₀ sums
   heads-renewed f t = renewing-done (cutSums found) n sums₀ sums i (g .heads) over f t
 
-  pub lasts-renewed : (f : ℕ → ℕ) → Suffixes f lasts₀ → Suffixes (renewed (lastSums a₀ cut) n f) lasts
+  pub lasts-renewed : RenewedBelow (lastSums a₀ cut) n lasts₀ lasts
   lasts-renewed f t = renewing-done (lastSums a₀ cut) n lasts₀ lasts i (g .lasts-new) over f t

@@ -40,21 +40,22 @@ raised-one p p' s t v q up sums =
     ∙ sym (mod-add-mod (p + s) (2 ^ 32) q)
 
 -- Records of level 1, each with its p raised by v, have every true p raised by q where v makes up for the other sums.
-low-raised : (a b : List ℕ) (f g : ℕ → ℕ) (v q : ℕ) → (v + sumFrom g 1 8) % 2 ^ 32 ≡ (q + sumFrom f 1 8) % 2 ^ 32 → (rs : List ℕ) → All (λ x. level a x ≡ 1) rs → All (λ x. level b x ≡ level a x) rs → All (λ x. pWord b x ≡ wrap (pWord a x) v) rs → trues b g rs ≡ map (λ (t : ℕ). wrap t q) (trues a f rs)
-unfolding trues pUnder wrap
-low-raised a b f g v q sums [] one same up = refl
-low-raised a b f g v q sums (r ∷ rs) one same up =
-    let one-a : level a r ≡ 1 = one .0 in
-    let one-b : level b r ≡ 1 = same .0 ∙ one .0 in
-    let s-a : sumFrom (after a f r) 1 8 ≡ sumFrom f 1 8 = sum-kept a f r (omega arith) in
-    let s-b : sumFrom (after b g r) 1 8 ≡ sumFrom g 1 8 = sum-kept b g r (omega arith) in
-    ap₂ _∷_
-    (ap (λ (l : ℕ). (pWord b r + sumFrom g l 8) % 2 ^ 32) one-b
-    ∙ raised-one (pWord a r) (pWord b r) (sumFrom f 1 8) (sumFrom g 1 8) v q (up .0) sums
-    ∙ ap (λ (l : ℕ). ((pWord a r + sumFrom f l 8) % 2 ^ 32 + q) % 2 ^ 32) (sym one-a))
-    (low-raised a b (after a f r) (after b g r) v q
-    (ap (λ (s : ℕ). (v + s) % 2 ^ 32) s-b ∙ sums ∙ ap (λ (s : ℕ). (q + s) % 2 ^ 32) (sym s-a)) rs (one .1) (same .1)
-    (up .1))
+module _ (a b : List ℕ) where
+  low-raised : (f g : ℕ → ℕ) (v q : ℕ) → MakesUp f g 1 q v → (rs : List ℕ) → All (λ x. level a x ≡ 1) rs → All (λ x. level b x ≡ level a x) rs → All (λ x. pWord b x ≡ wrap (pWord a x) v) rs → trues b g rs ≡ map (λ (t : ℕ). wrap t q) (trues a f rs)
+  unfolding trues pUnder wrap
+  low-raised f g v q sums [] one same up = refl
+  low-raised f g v q sums (r ∷ rs) one same up =
+      let one-a : level a r ≡ 1 = one .0 in
+      let one-b : level b r ≡ 1 = same .0 ∙ one .0 in
+      let s-a : sumFrom (after a f r) 1 8 ≡ sumFrom f 1 8 = sum-kept a f r (omega arith) in
+      let s-b : sumFrom (after b g r) 1 8 ≡ sumFrom g 1 8 = sum-kept b g r (omega arith) in
+      ap₂ _∷_
+      (ap (λ (l : ℕ). (pWord b r + sumFrom g l 8) % 2 ^ 32) one-b
+      ∙ raised-one (pWord a r) (pWord b r) (sumFrom f 1 8) (sumFrom g 1 8) v q (up .0) sums
+      ∙ ap (λ (l : ℕ). ((pWord a r + sumFrom f l 8) % 2 ^ 32 + q) % 2 ^ 32) (sym one-a))
+      (low-raised (after a f r) (after b g r) v q
+      (ap (λ (s : ℕ). (v + s) % 2 ^ 32) s-b ∙ sums ∙ ap (λ (s : ℕ). (q + s) % 2 ^ 32) (sym s-a)) rs (one .1) (same .1)
+      (up .1))
 
 -- Whether the next record with link 1 passes, as the code finds it.
 pub second-passes : (a : List ℕ) (h key x w : ℕ) (more b : Bool) → w ≡ word a h 4 → x ≡ w → more ≡ passes a x key → more ≡ b → passes a (forward a h 1) key ≡ b

@@ -44,12 +44,13 @@ module _ (a b : List ℕ) (k : ℕ) (f g : ℕ → ℕ) (e : (j : ℕ) → j < 8
       (trues-frame a b (after a f r) (after b g r) rs (after-fresh r s (v .0)) (v .1))
 
 -- The list xs ++ ys, with xs raised by v at link k and the sum of k raised as it is entered, where ys starts with a record that has link k: each true p of xs is raised, and those of ys stay.
-pub trues-parted : (a b : List ℕ) (k v : ℕ) → k < 8 → (f g : ℕ → ℕ) → Bumped k v f g → (xs ys : List ℕ) → All (λ x. 1 ≤ level a x) xs → All (λ x. level a x ≤ suc k) xs → ((x : ℕ) → Shape a b x) → All (Lifted a b k v) xs → Starts a k ys → All (Value a b) ys → trues b g (xs ++ ys) ≡ map (λ (t : ℕ). wrap t v) (trues a f xs) ++ trues a (leaving a f xs) ys
-unfolding trues leaving
-trues-parted a b k v small f g bump [] ys some low shape l s same = trues-fresh a b k f g (bump .other) ys s same
-trues-parted a b k v small f g bump (r ∷ xs) ys some low shape l s same =
-    ap₂ _∷_ (under-lifted a b k v small f g bump r (shape r .level-kept) (l .0) (some .0) (low .0))
-    (trues-parted a b k v small (after a f r) (after b g r) (after-lifted a b k v small f g bump r (shape r .level-kept) (l .0)) xs ys (some .1) (low .1) shape (l .1) s same)
+module _ (a b : List ℕ) (k v : ℕ) (small : k < 8) (shape : (x : ℕ) → Shape a b x) where
+  pub trues-parted : (f g : ℕ → ℕ) → Bumped k v f g → (xs ys : List ℕ) → All (λ x. 1 ≤ level a x) xs → All (λ x. level a x ≤ suc k) xs → All (Lifted a b k v) xs → Starts a k ys → All (Value a b) ys → trues b g (xs ++ ys) ≡ map (λ (t : ℕ). wrap t v) (trues a f xs) ++ trues a (leaving a f xs) ys
+  unfolding trues leaving
+  trues-parted f g bump [] ys some low l s same = trues-fresh a b k f g (bump .other) ys s same
+  trues-parted f g bump (r ∷ xs) ys some low l s same =
+      ap₂ _∷_ (under-lifted a b k v small f g bump r (shape r .level-kept) (l .0) (some .0) (low .0))
+      (trues-parted (after a f r) (after b g r) (after-lifted a b k v small f g bump r (shape r .level-kept) (l .0)) xs ys (some .1) (low .1) (l .1) s same)
 
 -- Sums that differ at the links from n on, which no record has: each true p differs as those sums do.
 plain : (p s x c : ℕ) → ((p + (s + x)) % 2 ^ 32 + c) % 2 ^ 32 ≡ (p + s + (c + x)) % 2 ^ 32

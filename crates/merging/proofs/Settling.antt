@@ -218,18 +218,18 @@ module _ (a₀ b : List ℕ) (head n i stop q : ℕ) (cut sums lasts : List ℕ)
     right-raised : trues b' (raisedSums a₀ head cutc i (i - 1) carry) front ≡ map (λ (t : ℕ). wrap t q) (trues a₀ (headSums a₀ head) front)
     right-raised =
         ap (trues b' (raisedSums a₀ head cutc i (i - 1) carry)) (l .part .split)
-        ∙ trues-parted b b' (i - 1) carry small (entering a₀ head cutc i) (raisedSums a₀ head cutc i (i - 1) carry)
-        (bumped-from a₀ head cutc i (i - 1) carry) (l .part .low) (l .part .rest) low-some lower (lift .shape) (lift .each)
+        ∙ trues-parted b b' (i - 1) carry small (lift .shape) (entering a₀ head cutc i) (raisedSums a₀ head cutc i (i - 1) carry)
+        (bumped-from a₀ head cutc i (i - 1) carry) (l .part .low) (l .part .rest) low-some lower (lift .each)
         (starts-lower b i (i - 1) (l .part .rest) (omega arith) (l .part .starts)) behind
         ∙ l .owed carry made
 
     owed' : (carry' : ℕ) → MakesUp (headSums a₀ head) (lastSums a₀ cutc) (i - 1) q carry' → Owed a₀ b' head (i - 1) carry' q cutc front (part' .low) (part' .rest)
     owed' carry' made' =
-        sym (trues-parted b' b' (i - 1) carry' small (entering a₀ head cutc (i - 1)) (raisedSums a₀ head cutc i (i - 1) carry)
+        sym (trues-parted b' b' (i - 1) carry' small (λ x. record { level-kept = refl; m-kept = refl; forward-kept = λ j h. refl })
+        (entering a₀ head cutc (i - 1)) (raisedSums a₀ head cutc i (i - 1) carry)
         (bumped-to a₀ head cutc i (i - 1) carry carry' (omega (arith, more)) next) (part' .low) (part' .rest)
         (all-left (λ x. 1 ≤ level b' x) (part' .low) (part' .rest) (subst (All (λ x. 1 ≤ level b' x)) (part' .split) (some-of b' linked')))
         (all-map (part' .low) (λ x h. omega arith) (part' .lower))
-        (λ x. record { level-kept = refl; m-kept = refl; forward-kept = λ j h. refl })
         (lifted-none b' (i - 1) carry' (part' .low) (part' .lower)) (part' .starts)
         (all-refl (part' .rest) (λ x. same-value b' b' x (same-refl b' x))))
         ∙ ap (trues b' (raisedSums a₀ head cutc i (i - 1) carry)) (sym (part' .split))
@@ -298,10 +298,11 @@ module _ (a₀ b : List ℕ) (head n i stop q : ℕ) (cut sums lasts : List ℕ)
         subst (λ (k : ℕ). (rs : List ℕ) × Chained b k first stop rs) none
         (_, settling-chained a₀ b head n i stop q cut sums lasts g cutc front back r kept first (subst (λ (k : ℕ). first ≡ word b head (3 + k)) (sym none) e))
 
-    pub settling-done : (b' : List ℕ) (carry first : ℕ) → length b' ≡ length b → Carries q sums lasts 1 carry → first ≡ word b head 3 → Lifts b b' 0 first stop carry → (cutc front back : List ℕ) → Ready a₀ head n cut cutc front back → Cached a₀ head cutc sums lasts → Settled a₀ b' head q cutc front
-    settling-done b' carry first long carries e lifts cutc front back r kept =
-        settled-last a₀ b head n i stop q cut sums lasts g cutc front back r kept b' carry
-        (subst (λ (j : ℕ). Carries q sums lasts j carry) (sym last) carries _ _ (kept .head) (kept .ends)) long
-        (subst (λ (k : ℕ). Lifts b b' k first stop carry) (sym none) lifts _
-        (settling-chained a₀ b head n i stop q cut sums lasts g cutc front back r kept first (subst (λ (k : ℕ). first ≡ word b head (3 + k)) (sym none) e)))
-        none
+    module _ (b' : List ℕ) (carry first : ℕ) (long : length b' ≡ length b) (carries : Carries q sums lasts 1 carry) (e : first ≡ word b head 3) (lifts : Lifts b b' 0 first stop carry) where
+      pub settling-done : (cutc front back : List ℕ) → Ready a₀ head n cut cutc front back → Cached a₀ head cutc sums lasts → Settled a₀ b' head q cutc front
+      settling-done cutc front back r kept =
+          settled-last a₀ b head n i stop q cut sums lasts g cutc front back r kept b' carry
+          (subst (λ (j : ℕ). Carries q sums lasts j carry) (sym last) carries _ _ (kept .head) (kept .ends)) long
+          (subst (λ (k : ℕ). Lifts b b' k first stop carry) (sym none) lifts _
+          (settling-chained a₀ b head n i stop q cut sums lasts g cutc front back r kept first (subst (λ (k : ℕ). first ≡ word b head (3 + k)) (sym none) e)))
+          none

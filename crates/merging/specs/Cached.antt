@@ -24,6 +24,10 @@ pub record Kept (a : List ℕ) (ho hn : ℕ) (last olders newers lasts : List �
 unfoldable pub renewed : (ℕ → ℕ) → ℕ → (ℕ → ℕ) → ℕ → ℕ
 renewed g n f k = cond (ltb k n) (g k) (f k)
 
+-- The sums t are the sums s, renewed so.
+abbrev pub RenewedBelow : (ℕ → ℕ) → ℕ → List ℕ → List ℕ → Type 0
+RenewedBelow g n s t = (f : ℕ → ℕ) → Suffixes f s → Suffixes (renewed g n f) t
+
 -- A record of level l whose p is raised by v has a true p that is q more under the sums g than it was under f.
 abbrev pub MakesUp : (ℕ → ℕ) → (ℕ → ℕ) → ℕ → ℕ → ℕ → Type 0
 MakesUp f g l q v = (v + sumFrom g l 8) % 2 ^ 32 ≡ (q + sumFrom f l 8) % 2 ^ 32

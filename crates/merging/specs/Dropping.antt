@@ -5,7 +5,7 @@ use Prim.Native.Nat.{ℕ, zero, suc, _+_, _<_}
 use lib.ListN.{length}
 use Rattle.arena.specs.Arena.{word, level, mWord, adjust}
 use Rattle.arena.specs.Chain.{Has, put, Linked, trues, after, Same}
-use Rattle.arena.specs.Turning.{Suffixes, Summable}
+use Rattle.arena.specs.Turning.{Summable, Renewed}
 
 -- Link k of the head h as that of r.
 abbrev pub handed : List ℕ → ℕ → ℕ → ℕ → List ℕ
@@ -36,6 +36,6 @@ pub record Tied (a : List ℕ) (h r last : ℕ) (sums : List ℕ) : Type 0 where
 -- It has left where the m of last is the key, and the sums are those behind it; else all is as it was.
 pub record DroppedTied (a b : List ℕ) (h r last key : ℕ) (sums sums' : List ℕ) : Type 0 where
   pub drops : mWord a last ≡ key → (x : ℕ) (rs : List ℕ) → Linked a h (x ∷ rs) → Dropped a b h x rs
-  pub passes : mWord a last ≡ key → (f : ℕ → ℕ) → Suffixes f sums → Suffixes (after a f r) sums'
+  pub passes : mWord a last ≡ key → Renewed a r sums sums'
   pub stays : (mWord a last ≡ key → ⊥) → b ≡ a
   pub sums-stay : (mWord a last ≡ key → ⊥) → sums' ≡ sums

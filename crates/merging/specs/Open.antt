@@ -78,6 +78,15 @@ pub record Relinked (a b : List ℕ) (h hc : ℕ) (cs front back cut sums cutc c
   pub adjust-above : (k : ℕ) → n ≤ k → k < 8 → adjust b h k ≡ adjust a h k
   pub outside : (x : ℕ) → (x ≡ h → ⊥) → ((k : ℕ) → k < n → x ≡ getD cutc k 0 → ⊥) → Same a b x
 
+-- Such a front of the head h is there, whichever it is, and it is moved.
+abbrev pub FrontReady : List ℕ → ℕ → List ℕ → List ℕ → List ℕ → ℕ → Type 0
+FrontReady a h cut sums cutc n =
+    (hc : ℕ) × (cs : List ℕ) × (front : List ℕ) × (back : List ℕ) × Relinkable a h hc cs front back cut sums cutc n
+
+abbrev pub FrontMoved : (a b : List ℕ) (h : ℕ) (cut sums cutc cutd : List ℕ) (n : ℕ) → Type 0
+FrontMoved a b h cut sums cutc cutd n =
+    (hc : ℕ) (cs front back : List ℕ) → Relinkable a h hc cs front back cut sums cutc n → Relinked a b h hc cs front back cut sums cutc cutd n
+
 -- The open list was closed.
 pub record Closed (a b : List ℕ) (h : ℕ) (cs cutc : List ℕ) : Type 0 where
   pub length-kept : length b ≡ length a

@@ -1,12 +1,10 @@
 // Moving the front of a list behind an open list.
 ghost use mathlib.Core.Path.{_≡_};
-ghost use mathlib.Core.List.{List};
-ghost use Prim.Native.Nat.{ℕ, _<_};
+ghost use Prim.Native.Nat.{_<_};
 ghost use lib.ListN.{length};
 ghost use Rattle.arena.specs.Chain.{Has};
-ghost use Rattle.arena.specs.Turning.{Suffixes};
-ghost use Rattle.merging.specs.Cached.{renewed};
-ghost use Rattle.merging.specs.Open.{relinkOne, Relinkable, Relinked};
+ghost use Rattle.merging.specs.Cached.{RenewedBelow};
+ghost use Rattle.merging.specs.Open.{relinkOne, FrontReady, FrontMoved};
 ghost use Rattle.merging.specs.Settled.{lastSums, cutSums};
 use arena::words::get;
 use arena::words::store;
@@ -36,11 +34,11 @@ pub fn relink(
     sums: &mut [u32],
     lasts: &mut [u32],
 )
-    requires { ⌜ ((hc : ℕ) × (cs : List ℕ) × (front : List ℕ) × (back : List ℕ) × Relinkable (now arena) head hc cs front back (now cut) (now found) (now ends) n) ⌝ }
+    requires { ⌜ FrontReady (now arena) head (now cut) (now found) (now ends) n ⌝ }
     requires { ⌜ (length (now sums) ≡ 9) × (length (now lasts) ≡ 9) ⌝ }
-    ensures { λ _. ⌜ ((hc : ℕ) (cs front back : List ℕ) → Relinkable (now (arena .entry)) head hc cs front back (now (cut .entry)) (now (found .entry)) (now (ends .entry)) n → Relinked (now (arena .entry)) (now (arena .exit)) head hc cs front back (now (cut .entry)) (now (found .entry)) (now (ends .entry)) (now (ends .exit)) n) ⌝ }
-    ensures { λ _. ⌜ ((f : ℕ → ℕ) → Suffixes f (now (sums .entry)) → Suffixes (renewed (cutSums (now (found .entry))) n f) (now (sums .exit))) ⌝ }
-    ensures { λ _. ⌜ ((f : ℕ → ℕ) → Suffixes f (now (lasts .entry)) → Suffixes (renewed (lastSums (now (arena .entry)) (now (cut .entry))) n f) (now (lasts .exit))) ⌝ }
+    ensures { λ _. ⌜ FrontMoved (now (arena .entry)) (now (arena .exit)) head (now (cut .entry)) (now (found .entry)) (now (ends .entry)) (now (ends .exit)) n ⌝ }
+    ensures { λ _. ⌜ RenewedBelow (cutSums (now (found .entry))) n (now (sums .entry)) (now (sums .exit)) ⌝ }
+    ensures { λ _. ⌜ RenewedBelow (lastSums (now (arena .entry)) (now (cut .entry))) n (now (lasts .entry)) (now (lasts .exit)) ⌝ }
 {
     let mut i = n;
     while 1 < i {

@@ -11,7 +11,7 @@ use Rattle.slicing.specs.Recorded.{items}
 use Rattle.arena.specs.Arena.{word, adjust}
 use Rattle.arena.specs.Lazy.{held}
 use Rattle.arena.specs.Chain.{pUnder, after, trues}
-use Rattle.arena.specs.Turning.{Suffixes, Summable, Enterable}
+use Rattle.arena.specs.Turning.{Suffixes, Summable, Enterable, TrueP, Renewed}
 use Rattle.merging.specs.Carried.{carried}
 use Rattle.shapes.specs.Listing.{listWords, writtenOver}
 use Rattle.shapes.specs.Writing.{Listable, itemAt}
@@ -60,7 +60,7 @@ module _ (a : List ℕ) (h : ℕ) (old out sums : List ℕ) (next at : ℕ) (w :
       let place = s .place in
       omega arith)
 
-  pub heights-more : (x y : ℕ) (out' sums' : List ℕ) (n : ℕ) → x ≡ word a r 1 → ((f : ℕ → ℕ) → Suffixes f sums → y ≡ pUnder a f r) → out' ≡ itemAt out at x y → ((f : ℕ → ℕ) → Suffixes f sums → Suffixes (after a f r) sums') → n ≡ word a r 3 → Heights a h old out' sums' n (at + 2)
+  pub heights-more : (x y : ℕ) (out' sums' : List ℕ) (n : ℕ) → x ≡ word a r 1 → TrueP a r sums y → out' ≡ itemAt out at x y → Renewed a r sums sums' → n ≡ word a r 3 → Heights a h old out' sums' n (at + 2)
   unfolding listWords
   heights-more x y out' sums' n x-is y-is out-is passed e =
       walk-more a h next (Onward a h old out sums at) w some r same n e (Onward a h old out' sums' (at + 2))

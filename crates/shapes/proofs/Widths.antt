@@ -12,7 +12,7 @@ use Rattle.slicing.proofs.TurnLaws.{turn-length}
 use Rattle.arena.specs.Arena.{word, mWord, adjust}
 use Rattle.arena.specs.Lazy.{held}
 use Rattle.arena.specs.Chain.{pUnder, after, trues}
-use Rattle.arena.specs.Turning.{Suffixes, Summable}
+use Rattle.arena.specs.Turning.{Suffixes, Summable, TrueP, Renewed}
 use Rattle.merging.specs.Carried.{carried}
 use Rattle.shapes.specs.Listing.{listWords, writtenOver}
 use Rattle.shapes.specs.Writing.{Countable, Listable, itemAt}
@@ -101,7 +101,7 @@ module _ (a : List ℕ) (h : ℕ) (old out sums : List ℕ) (next at : ℕ) (w :
       (sym (turned-words (size (mWord a r) (pUnder a f r)) (itemsOf a (after a f r) qs)))
       ∙ ap (λ (l : List Item). writtenOver (listWords (turn l)) out) (sym (items-first a f r qs))
 
-  pub widths-more : (x y : ℕ) (out' sums' : List ℕ) (n : ℕ) → ((f : ℕ → ℕ) → Suffixes f sums → x ≡ pUnder a f r) → y ≡ word a r 1 → out' ≡ itemAt out (at - 2) x y → ((f : ℕ → ℕ) → Suffixes f sums → Suffixes (after a f r) sums') → n ≡ word a r 3 → Widths a h old out' sums' n (at - 2)
+  pub widths-more : (x y : ℕ) (out' sums' : List ℕ) (n : ℕ) → TrueP a r sums x → y ≡ word a r 1 → out' ≡ itemAt out (at - 2) x y → Renewed a r sums sums' → n ≡ word a r 3 → Widths a h old out' sums' n (at - 2)
   widths-more x y out' sums' n x-is y-is out-is passed e =
       walk-more a h next (Backward a h old out sums at) w some r same n e (Backward a h old out' sums' (at - 2))
       (λ rs qs s.

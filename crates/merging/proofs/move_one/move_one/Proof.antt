@@ -88,7 +88,8 @@ relink-requires c κs =
     let at-n = at-level at-raise in
     let kept = start at-raise .pre .1 .1 in
     let p = start at-raise .pre .0 in
-    ((p .0, p .1, _, _, first-relinkable _ _ (p .0) _ (p .1) (p .2) (p .3) _ (p .4) (start at-raise .pre .1 .0) _ (is-first (at-first at-n)) _ (is-level at-n) _ _ _ (made at-raise) (at-raise .raise .ensures) _ _ (omega arith) (all-one _) (at-adjusts .adjusts-of .ensures)), (kept .head .nine, kept .ends .nine))
+    let alone = start at-raise .pre .1 .0 in
+    ((p .0, p .1, _, _, first-relinkable _ _ (p .0) _ (p .1) (p .2) (p .3) _ (p .4) alone _ (is-first (at-first at-n)) _ (is-level at-n) _ _ _ (made at-raise) (at-raise .raise .ensures) _ _ (omega arith) (all-one _) (at-adjusts .adjusts-of .ensures)), (kept .head .nine, kept .ends .nine))
 
 same-length : tie.Need-same-length
 same-length c = search needs

@@ -1,6 +1,5 @@
 -- `merging::relink::relink` meets its contract: the front is moved behind the open list, and the sums kept are renewed.
 -- The loop keeps `Relinking`, and its measure is the links left.
-use mathlib.Core.Path.{refl}
 use Prim.Native.Nat.{_≤_}
 use native.Mathlib.Omega.{arith}
 use borrow.Author.Needs.{needs}
@@ -76,7 +75,8 @@ add-get c = search needs
 
 get-requires : tie.Need-get-requires Inv-loop μ-loop
 get-requires c κs =
-    let at-loop-test = c .before .before .before .before .before .before .before .before .before .before .before in
+    let at-relink = c .before .before .before .before .before .before in
+    let at-loop-test = at-relink .before .before .before .before .before in
     let at-loop = at-loop-test .before in
     let has = rewiring-has _ _ _ _ _ _ _ _ _ _ (stepped _ (at-loop-test .loop-test .taken)) (at-loop .loop .inv .rewiring) in
     let to = has .3 in
@@ -100,7 +100,7 @@ loop-again c =
     let at-relink = at-sum .before .before .before .before in
     let at-loop-test = at-relink .before .before .before .before .before in
     let at-loop = at-loop-test .before in
-    relinking-turn _ _ _ _ _ _ _ _ _ _ _ _ _ (at-loop .loop .inv) (at-loop-test .loop-test .taken) _ (at-relink .relink-one .ensures) _ _ _ _ _ refl (at-sum .wrapping-add-u32 .ensures) refl (c .before .get .ensures) (c .wrapping-add-u322 .ensures)
+    relinking-turn _ _ _ _ _ _ _ _ _ _ _ _ _ (at-loop .loop .inv) (at-loop-test .loop-test .taken) _ (at-relink .relink-one .ensures) _ _ _ (at-sum .wrapping-add-u32 .ensures) (c .before .get .ensures) (c .wrapping-add-u322 .ensures)
 
 shared-slice-read-to-2 : tie.Need-shared-slice-read-to-2 Inv-loop μ-loop
 shared-slice-read-to-2 c = search needs

@@ -15,6 +15,15 @@ Inv-loop arena head key n cut₀ sums₀ cur₀ i₀ cut sums cur i = Going aren
 abbrev μ-loop : tie.MeasureT-loop
 μ-loop arena head key n cut₀ sums₀ cur₀ i₀ cut sums cur i = i + count 512 arena (forward arena cur 0)
 
+-- The states of a turn: the next record with the link is found, and whether it passes.
+module _ (c : tie.After-wide Inv-loop μ-loop) where
+  abbrev at-turn : tie.In-loop Inv-loop μ-loop
+  at-turn = c .before .before
+
+module _ (c : tie.After-may-pass Inv-loop μ-loop) where
+  abbrev at-next : tie.After-wide Inv-loop μ-loop
+  at-next = c .before
+
 loop-holds : tie.Need-loop-holds Inv-loop μ-loop
 loop-holds c = search (needs, going-start)
 
@@ -31,13 +40,23 @@ wide-requires : tie.Need-wide-requires Inv-loop μ-loop
 wide-requires c κs = search needs
 
 may-pass-requires : tie.Need-may-pass-requires Inv-loop μ-loop
-may-pass-requires c κs = (going-has _ _ _ _ _ _ _ _ _ _ _ (c .before .before .before .loop .inv) (c .before .before .loop-test .taken) (c .wide .ensures ∙ c .before .get .ensures), search needs)
+may-pass-requires c κs =
+    let turn = at-turn c in
+    (going-has _ _ _ _ _ _ _ _ _ _ _ (turn .before .loop .inv) (turn .loop-test .taken) (c .wide .ensures ∙ c .before .get .ensures), search needs)
 
 loop-less : tie.Need-loop-less Inv-loop μ-loop
-loop-less c = going-less _ _ _ _ _ _ _ _ _ _ _ (c .before .before .before .before .before .loop .inv) (c .before .before .before .before .loop-test .taken) (c .before .before .wide .ensures ∙ c .before .before .before .get .ensures) (sym (c .before .may-pass .ensures) ∙ c .if1 .taken)
+loop-less c =
+    let looked = c .before in
+    let next = at-next looked in
+    let turn = at-turn next in
+    going-less _ _ _ _ _ _ _ _ _ _ _ (turn .before .loop .inv) (turn .loop-test .taken) (next .wide .ensures ∙ next .before .get .ensures) (sym (looked .may-pass .ensures) ∙ c .if1 .taken)
 
 loop-again : tie.Need-loop-again Inv-loop μ-loop
-loop-again c = going-jump _ _ _ _ _ _ _ _ _ _ _ (c .before .before .before .before .before .loop .inv) (c .before .before .before .before .loop-test .taken) (c .before .before .wide .ensures ∙ c .before .before .before .get .ensures) (sym (c .before .may-pass .ensures) ∙ c .if1 .taken)
+loop-again c =
+    let looked = c .before in
+    let next = at-next looked in
+    let turn = at-turn next in
+    going-jump _ _ _ _ _ _ _ _ _ _ _ (turn .before .loop .inv) (turn .loop-test .taken) (next .wide .ensures ∙ next .before .get .ensures) (sym (looked .may-pass .ensures) ∙ c .if1 .taken)
 
 mul-cut : tie.Need-mul-cut Inv-loop μ-loop
 mul-cut c = search needs
@@ -61,7 +80,11 @@ loop-less-2 : tie.Need-loop-less-2 Inv-loop μ-loop
 loop-less-2 c = search needs
 
 loop-again-2 : tie.Need-loop-again-2 Inv-loop μ-loop
-loop-again-2 c = going-lower _ _ _ _ _ _ _ _ _ _ _ (c .before .before .before .before .before .before .loop .inv) (c .before .before .before .before .before .loop-test .taken) (c .before .before .before .wide .ensures ∙ c .before .before .before .before .get .ensures) (sym (c .before .before .may-pass .ensures) ∙ c .before .if1 .left) _ (c .get2 .ensures)
+loop-again-2 c =
+    let looked = c .before .before in
+    let next = at-next looked in
+    let turn = at-turn next in
+    going-lower _ _ _ _ _ _ _ _ _ _ _ (turn .before .loop .inv) (turn .loop-test .taken) (next .wide .ensures ∙ next .before .get .ensures) (sym (looked .may-pass .ensures) ∙ c .before .if1 .left) _ (c .get2 .ensures)
 
 same-length : tie.Need-same-length Inv-loop μ-loop
 same-length c = c .before .loop .inv .kept
