@@ -6,7 +6,6 @@ use Prim.Native.Nat.{ℕ, _+_, _-_, _%_, _^_, _≤_, _<_}
 use native.Mathlib.Omega.{arith}
 use lib.ListN.{getD, set}
 use Rattle.arena.specs.Arena.{word, level}
-use Rattle.arena.specs.Chain.{after}
 use Rattle.arena.specs.Building.{hook1, Hooked}
 use Rattle.arena.specs.Turning.{Turnable1, Renewed}
 use Rattle.arena.proofs.Summing.{Renewing, renewing-start, renewing-more, renewing-done}

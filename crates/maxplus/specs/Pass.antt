@@ -6,7 +6,6 @@ use Prim.Native.Nat.{ℕ, _≤_, _<_}
 use lib.Dec.{leb}
 use lib.ListN.{length, getD}
 use Rattle.arena.specs.Arena.{level, forward}
-use Rattle.arena.specs.Chain.{after}
 use Rattle.maxplus.specs.declared.Reading.{Reading}
 
 -- A call that is refused.

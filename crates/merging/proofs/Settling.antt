@@ -2,7 +2,7 @@
 -- A turn raises these at the link below, so that the raised sum of that link would make each true p right; the carry to the next link is what is left of that sum, and only the records before the first with the link see it.
 use mathlib.Core.Path.{_≡_, refl, sym, ap, subst, _∙_}
 use mathlib.Core.Bool.{cond}
-use mathlib.Core.List.{List, [], _++_, map, append-nil, append-assoc}
+use mathlib.Core.List.{List, _++_, map, append-nil, append-assoc}
 use Prim.Native.Nat.{ℕ, suc, _+_, _-_, _%_, _^_, _≤_, _<_}
 use native.Mathlib.Omega.{arith}
 use lib.ListN.{length, getD}
