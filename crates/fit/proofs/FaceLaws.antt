@@ -18,7 +18,7 @@ use Rattle.slicing.proofs.Placing.{words-length}
 use Rattle.slicing.proofs.ShapeLaws.{shapes-short}
 use Rattle.facefile.specs.Format.{faceOf}
 use Rattle.facefile.proofs.Taken.{face-taken}
-use Rattle.shapes.specs.Listing.{writtenOver}
+use Rattle.lent.specs.Lent.{writtenOver}
 use Rattle.stored.specs.Packed.{pack, facing, ownShapes, HasList}
 use Rattle.stored.specs.Store.{Stored}
 use Rattle.stored.specs.Filling.{Fillable, Filled}

@@ -7,7 +7,6 @@ pub mod TakeLaws
 pub mod ShapeReading
 pub mod JoinLaws
 pub mod LayLaws
-pub mod FitLent
 pub mod FaceLaws
 pub mod FitCall
 pub mod Rows

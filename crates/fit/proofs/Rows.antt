@@ -20,7 +20,8 @@ use Rattle.arena.specs.Arena.{word}
 use Rattle.arena.specs.Lazy.{nextWith, lastWith, sumFrom, trueP, held, walk, linksRight, linked, falling, lazyList}
 use Rattle.maxplus.specs.declared.Reading.{Reading}
 use Rattle.maxplus.specs.Read.{readItem, reading}
-use Rattle.shapes.specs.Listing.{listWords, writtenOver}
+use Rattle.lent.specs.Lent.{writtenOver}
+use Rattle.shapes.specs.Listing.{listWords}
 use Rattle.fit.specs.declared.Fitted.{Fitted}
 use Rattle.fit.specs.Fitting.{noFace, fitted, fitOutput}
 

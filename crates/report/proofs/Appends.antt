@@ -6,7 +6,7 @@ use Prim.Native.Nat.{ℕ, suc, _+_, _≤_}
 use native.Mathlib.Omega.{arith}
 use lib.ListN.{length, set, length-append}
 use lib.Seq.{sets, length-sets, length-take-le}
-use Rattle.shapes.specs.Listing.{writtenOver}
+use Rattle.lent.specs.Lent.{writtenOver}
 use Rattle.shapes.proofs.WordLaws.{over-sets}
 use Rattle.report.specs.Printing.{Printed, Counted}
 use Rattle.report.specs.Appending.{Appended}

@@ -17,7 +17,8 @@ use Rattle.facefile.specs.Format.{faceOf}
 use Rattle.facefile.specs.Summary.{summary}
 use Rattle.facefile.proofs.Answered.{answer-taken, answer-refused}
 use Rattle.facefile.proofs.Taken.{face-taken}
-use Rattle.shapes.specs.Listing.{listWords, writtenOver}
+use Rattle.lent.specs.Lent.{writtenOver}
+use Rattle.shapes.specs.Listing.{listWords}
 use Rattle.shapes.specs.Taken.{Wrote, WroteFace}
 use Rattle.shapes.proofs.WordLaws.{words-length as list-words-length}
 use Rattle.fit.specs.declared.Fitted.{Fitted}

@@ -1,9 +1,9 @@
--- `shapes::listing::also_in_range` meets its contract.
+-- `lent::levels::also_in_range` meets its contract.
 -- Each way out is one answer of the two tests.
 use borrow.Author.Needs.{needs}
-use Rattle.shapes.proofs.LentLaws.{also-low, also-high, also-fine}
-use Rattle.shapes.proofs.listing.also_in_range.Statement.{statement}
-use Rattle.shapes.proofs.listing.also_in_range.Tie as tie
+use Rattle.lent.proofs.LevelRange.{also-low, also-high, also-fine}
+use Rattle.lent.proofs.levels.also_in_range.Statement.{statement}
+use Rattle.lent.proofs.levels.also_in_range.Tie as tie
 
 returns : tie.Need-returns
 returns c = search (needs, also-low)
