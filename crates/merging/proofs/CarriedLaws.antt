@@ -12,8 +12,8 @@ use Rattle.slicing.proofs.Batch.{raisedOlder, raisedNewer}
 use Rattle.arena.specs.Arena.{mWord}
 use Rattle.arena.specs.Chain.{wrap, All, pUnder, after, trues, leaving, Same}
 use Rattle.arena.proofs.Frames.{all-map, all-refl, same-value, trues-frame}
+use Rattle.arena.proofs.ListLaws.{trues-append}
 use Rattle.merging.specs.Carried.{paired, carried}
-use Rattle.merging.proofs.Advancing.{trues-append}
 
 pub trues-length : (a : List ℕ) (f : ℕ → ℕ) (rs : List ℕ) → length (trues a f rs) ≡ length rs
 unfolding trues

@@ -9,13 +9,14 @@ use Rattle.slicing.specs.Recorded.{Recorded}
 use Rattle.arena.specs.Arena.{word, level, mWord, adjust}
 use Rattle.arena.specs.Chain.{Has, pUnder}
 use Rattle.arena.specs.Turning.{Summable}
-use Rattle.merging.specs.Cut.{front}
-use Rattle.merging.specs.Cached.{Cached, Kept}
-use Rattle.merging.specs.Advance.{behind, Movable, Moved, RunMoved}
-use Rattle.merging.specs.Running.{Merging, Further, NewerReady, NewerDone}
 use Rattle.arena.proofs.Summing.{suffixes-agree}
-use Rattle.merging.proofs.Advancing.{behind-shorter, all-front}
-use Rattle.merging.proofs.DropLaws.{same-first, first-has}
+use Rattle.searching.specs.Cut.{front, behind}
+use Rattle.searching.proofs.CutLaws.{behind-shorter, all-front}
+use Rattle.dropping.proofs.DropLaws.{same-first, first-has}
+use Rattle.settling.specs.Cached.{Cached}
+use Rattle.moving.specs.Advance.{Movable, Moved, RunMoved}
+use Rattle.merging.specs.Trio.{Kept}
+use Rattle.merging.specs.Running.{Merging, Further, NewerReady, NewerDone}
 use Rattle.merging.proofs.TrioLaws.{trio-swap, trio-movable}
 use Rattle.merging.proofs.Steps.{newer-moves}
 use Rattle.merging.proofs.Confined.{confined-swap, confined-moved}

@@ -11,17 +11,18 @@ use Rattle.arena.specs.Lazy.{lastWith}
 use Rattle.arena.specs.Chain.{Has, All, Away, Member, Linked, pUnder, after}
 use Rattle.arena.specs.Turning.{Summable, Renewed}
 use Rattle.arena.proofs.ListLaws.{last-all, all-append}
-use Rattle.merging.specs.Cut.{front}
-use Rattle.merging.specs.Settled.{lastSums}
-use Rattle.merging.specs.Cached.{Cached, Kept}
-use Rattle.merging.specs.Advance.{behind, Movable, Moved, RunMoved}
-use Rattle.merging.specs.Dropping.{Dropped, Tied, DroppedTied}
-use Rattle.merging.specs.Running.{Confined, Merging, Further, OlderReady, OlderDone}
-use Rattle.merging.proofs.OpenLaws.{open-has}
 use Rattle.arena.proofs.Cases.{eq-or-ne}
 use Rattle.arena.proofs.Summing.{suffixes-agree}
-use Rattle.merging.proofs.Advancing.{behind-shorter, all-front}
-use Rattle.merging.proofs.DropLaws.{same-first, first-has}
+use Rattle.searching.specs.Cut.{front, behind}
+use Rattle.searching.proofs.CutLaws.{behind-shorter, all-front}
+use Rattle.dropping.specs.Dropping.{Dropped, Tied, DroppedTied}
+use Rattle.dropping.proofs.DropLaws.{same-first, first-has}
+use Rattle.splicing.specs.Open.{lastSums}
+use Rattle.splicing.proofs.OpenLaws.{open-has}
+use Rattle.settling.specs.Cached.{Cached}
+use Rattle.moving.specs.Advance.{Movable, Moved, RunMoved}
+use Rattle.merging.specs.Trio.{Kept}
+use Rattle.merging.specs.Running.{Confined, Merging, Further, OlderReady, OlderDone}
 use Rattle.merging.proofs.TrioLaws.{trio-movable, trio-moved}
 use Rattle.merging.proofs.Steps.{older-stays, older-drops}
 use Rattle.merging.proofs.Confined.{confined-moved, confined-dropped}

@@ -13,8 +13,8 @@ use Rattle.arena.specs.Arena.{word, forward, adjust}
 use Rattle.arena.specs.Chain.{Linked, trues}
 use Rattle.arena.proofs.Cases.{lt-or-ge}
 use Rattle.arena.proofs.Walking.{count, count-is, next-none, next-first}
+use Rattle.searching.specs.Cut.{Searchable}
 use Rattle.merging.specs.Carried.{carried}
-use Rattle.merging.specs.Cut.{Searchable}
 use Rattle.merging.specs.Running.{Merging, StepReady, StepDone, bothWait, RunsReady, RunsDone}
 
 -- The test of the loop.

@@ -19,15 +19,15 @@ use Rattle.arena.specs.Lazy.{lastWith}
 use Rattle.arena.proofs.Cases.{lt-or-ge}
 use Rattle.arena.proofs.ListLaws.{all-right, last-here, last-append}
 use Rattle.arena.proofs.Frames.{all-map}
-use Rattle.merging.specs.Cut.{front}
-use Rattle.merging.specs.Advance.{behind, Moved}
-use Rattle.merging.specs.Open.{OpenChain}
-use Rattle.merging.proofs.SearchLaws.{front-in}
+use Rattle.searching.specs.Cut.{front, behind}
+use Rattle.searching.proofs.SearchLaws.{front-in}
+use Rattle.searching.proofs.CutLaws.{front-behind}
+use Rattle.dropping.specs.Dropping.{Dropped}
+use Rattle.splicing.specs.Open.{OpenChain}
+use Rattle.moving.specs.Advance.{Moved}
 use Rattle.merging.specs.Carried.{paired, carried}
-use Rattle.merging.specs.Dropping.{Dropped}
 use Rattle.merging.specs.Trio.{Roomy}
 use Rattle.merging.specs.Running.{Waiting, Running}
-use Rattle.merging.proofs.Advancing.{front-behind}
 use Rattle.merging.proofs.TrioLaws.{trio-swap, trio-moved, newer-carried, trio-dropped, dropped-older, dropped-result, dropped-newer}
 use Rattle.merging.proofs.CarriedLaws.{trues-length, carried-cons, carried-append, carried-frame, Below, moved-older, moved-newer}
 

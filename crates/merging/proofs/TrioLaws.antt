@@ -7,17 +7,16 @@ use native.Mathlib.Omega.{arith}
 use lib.ListN.{length, length-append}
 use Rattle.arena.specs.Arena.{mWord, adjust}
 use Rattle.arena.specs.Chain.{All, Away, Chain, after, Same}
-use Rattle.arena.proofs.ListLaws.{all-append, apart-swap}
+use Rattle.arena.proofs.ListLaws.{all-append, apart-swap, apart-from}
 use Rattle.arena.proofs.Frames.{all-map, same-shape, same-value, linked-frame, trues-frame}
-use Rattle.merging.specs.Cut.{front, Falling, Searchable}
-use Rattle.merging.specs.Advance.{behind, Movable, Moved}
-use Rattle.merging.specs.Dropping.{Dropped}
+use Rattle.searching.specs.Cut.{front, Falling, Searchable, behind}
+use Rattle.searching.proofs.SearchLaws.{falling-right}
+use Rattle.searching.proofs.CutLaws.{front-behind, all-front, all-behind}
+use Rattle.dropping.specs.Dropping.{Dropped}
+use Rattle.splicing.proofs.OpenLaws.{ends-frame, open-frame}
+use Rattle.moving.specs.Advance.{Movable, Moved}
 use Rattle.merging.specs.Carried.{carried}
 use Rattle.merging.specs.Trio.{Trio}
-use Rattle.merging.proofs.SearchLaws.{falling-right}
-use Rattle.merging.proofs.FrontLaws.{apart-from}
-use Rattle.merging.proofs.OpenLaws.{ends-frame, open-frame}
-use Rattle.merging.proofs.Advancing.{front-behind, all-front, all-behind}
 use Rattle.merging.proofs.CarriedLaws.{carried-frame}
 
 -- The older list and the newer one in each other's place.

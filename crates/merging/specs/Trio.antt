@@ -2,10 +2,11 @@
 use mathlib.Core.Path.{_≡_}
 use mathlib.Core.List.{List}
 use Prim.Native.Nat.{ℕ, _+_, _^_, _≤_, _<_}
-use Rattle.arena.specs.Arena.{mWord}
+use Rattle.arena.specs.Arena.{mWord, adjust}
 use Rattle.arena.specs.Chain.{All, Away}
-use Rattle.merging.specs.Cut.{Searchable}
-use Rattle.merging.specs.Open.{OpenLinked, CutC}
+use Rattle.arena.specs.Turning.{Suffixes}
+use Rattle.searching.specs.Cut.{Searchable}
+use Rattle.splicing.specs.Open.{OpenLinked, CutC, lastSums}
 
 -- The m of a record is 1 or more, and with 1 added it does not leave 32 bits.
 pub record Roomy (a : List ℕ) (x : ℕ) : Type 0 where
@@ -30,3 +31,9 @@ pub record Trio (a : List ℕ) (ho hn hc : ℕ) (xs ys cs ends : List ℕ) : Typ
   pub lists-apart : All (λ x. Away x ys) xs
   pub result-older-apart : All (λ x. Away x xs) cs
   pub result-newer-apart : All (λ x. Away x ys) cs
+
+-- The sums that are kept beside the arena: those of both heads, and those of the last records of the result.
+pub record Kept (a : List ℕ) (ho hn : ℕ) (last olders newers lasts : List ℕ) : Type 0 where
+  pub older : Suffixes (adjust a ho) olders
+  pub newer : Suffixes (adjust a hn) newers
+  pub ends : Suffixes (lastSums a last) lasts

@@ -1,12 +1,12 @@
 // The step of the merge that moves a run of the newer list.
-ghost use Rattle.merging.specs.Cached.{Kept};
+ghost use Rattle.merging.specs.Trio.{Kept};
 ghost use Rattle.merging.specs.Running.{NewerReady, NewerDone};
-use crate::linked_run::linked_run;
-use crate::search::may_pass;
-use crate::walk_run::walk_run;
 use arena::sums::true_p;
 use arena::words::get;
 use arena::words::wide;
+use moving::linked_run::linked_run;
+use moving::walk_run::walk_run;
+use searching::search::may_pass;
 
 // Moves the records of the newer list whose m is larger than that of the older list's first. A run in which no record has
 // link 1 is one walk.

@@ -1,13 +1,13 @@
 // The step of the merge that moves a run of the older list.
-ghost use Rattle.merging.specs.Cached.{Kept};
+ghost use Rattle.merging.specs.Trio.{Kept};
 ghost use Rattle.merging.specs.Running.{OlderReady, OlderDone};
-use crate::drop_tied::drop_tied;
-use crate::linked_run::linked_run;
-use crate::search::may_pass;
-use crate::walk_run::walk_run;
 use arena::sums::true_p;
 use arena::words::get;
 use arena::words::wide;
+use dropping::drop_tied::drop_tied;
+use moving::linked_run::linked_run;
+use moving::walk_run::walk_run;
+use searching::search::may_pass;
 
 // Moves the records of the older list whose m is at least that of the newer list's first. Where the last of them has
 // the same m, the newer list's first record leaves: of two records of one m the older part's stays. A run in which no record

@@ -1,7 +1,7 @@
 // The runs of the merge, one after the other, while both lists have a record.
 ghost use mathlib.Core.Path.{_≡_};
 ghost use Rattle.arena.specs.Chain.{Has};
-ghost use Rattle.merging.specs.Cached.{Kept};
+ghost use Rattle.merging.specs.Trio.{Kept};
 ghost use Rattle.merging.specs.Running.{StepReady, StepDone, bothWait, RunsReady, RunsDone};
 use crate::newer_step::newer_step;
 use crate::older_step::older_step;

@@ -6,9 +6,9 @@ use Prim.Native.Nat.{_+_}
 use borrow.Author.Needs.{needs}
 use Rattle.arena.specs.Arena.{word, forward, adjust}
 use Rattle.arena.specs.Chain.{pUnder}
-use Rattle.merging.specs.Cut.{passes}
-use Rattle.merging.proofs.Passing.{link-reach}
-use Rattle.merging.proofs.RunLaws.{second-passes}
+use Rattle.searching.specs.Cut.{passes}
+use Rattle.searching.proofs.Passing.{link-reach}
+use Rattle.moving.proofs.RunLaws.{second-passes}
 use Rattle.merging.proofs.NewerStep.{newer-has, newer-room, newer-movable, newer-summable, newer-cached, newer-kept, newer-done}
 use Rattle.merging.proofs.newer_step.newer_step.Statement.{statement}
 use Rattle.merging.proofs.newer_step.newer_step.Tie as tie

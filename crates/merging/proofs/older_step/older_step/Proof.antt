@@ -6,9 +6,9 @@ use native.Mathlib.Omega.{arith}
 use borrow.Author.Needs.{needs}
 use Rattle.arena.specs.Arena.{word, forward, adjust}
 use Rattle.arena.specs.Chain.{pUnder}
-use Rattle.merging.specs.Cut.{passes}
-use Rattle.merging.proofs.Passing.{link-reach}
-use Rattle.merging.proofs.RunLaws.{second-passes}
+use Rattle.searching.specs.Cut.{passes}
+use Rattle.searching.proofs.Passing.{link-reach}
+use Rattle.moving.proofs.RunLaws.{second-passes}
 use Rattle.merging.proofs.OlderStep.{older-has, older-summable, older-movable, older-moved, tied, older-done, tied-kept}
 use Rattle.merging.proofs.older_step.older_step.Statement.{statement}
 use Rattle.merging.proofs.older_step.older_step.Tie as tie

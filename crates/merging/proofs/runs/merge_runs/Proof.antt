@@ -3,7 +3,7 @@
 use mathlib.Core.Path.{_≡_, sym, _∙_}
 use native.Mathlib.Omega.{arith}
 use borrow.Author.Needs.{needs}
-use Rattle.merging.specs.Cached.{Kept}
+use Rattle.merging.specs.Trio.{Kept}
 use Rattle.merging.specs.Running.{bothWait}
 use Rattle.merging.proofs.RunsLaws.{Goes, waiting, goes-start, goes-ready, goes-turn, goes-less, goes-done}
 use Rattle.merging.proofs.runs.merge_runs.Statement.{statement}
