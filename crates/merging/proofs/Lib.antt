@@ -1,10 +1,5 @@
 pub mod CarriedLaws
-pub mod TrioLaws
-pub mod Steps
-pub mod Confined
-pub mod NewerStep
-pub mod OlderStep
+pub mod HeldLaws
 pub mod Stepping
 pub mod RunsLaws
-pub mod HeldLaws
 pub mod MergeLaws

@@ -1,4 +1,4 @@
 pub mod Carried
 pub mod Trio
-pub mod Running
+pub mod Runs
 pub mod Merge

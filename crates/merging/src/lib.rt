@@ -1,5 +1,3 @@
-// The maxplus merge of two lazy lists in an arena: run after run goes to the result.
+// The maxplus merge of two lazy lists in an arena: step after step, while both lists have a record.
 pub mod merge;
-mod newer_step;
-mod older_step;
 mod runs;

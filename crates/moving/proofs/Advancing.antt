@@ -15,7 +15,7 @@ use Rattle.arena.proofs.Summing.{suffixes-agree, renewed-in, renewed-out}
 use Rattle.arena.proofs.PutLaws.{same-trans}
 use Rattle.arena.proofs.Frames.{all-map, all-refl, all-both, same-value, next-frame, linked-frame, trues-frame, last-frame}
 use Rattle.searching.specs.Cut.{front, behind, LinkCount, CutAt}
-use Rattle.searching.proofs.CutLaws.{front-behind, all-front, all-behind}
+use Rattle.searching.proofs.CutLaws.{front-behind, all-front}
 use Rattle.splicing.specs.Open.{Relinkable, Relinked, lastSums, cutSums}
 use Rattle.splicing.proofs.OpenLaws.{ends-frame, open-frame}
 use Rattle.splicing.proofs.ClosingLaws.{ends-has}

@@ -1,4 +1,4 @@
--- `merging::newer_step::newer_step` meets its contract: the merge is further on, by a run of the newer list.
+-- `stepping::newer_step::newer_step` meets its contract: the merge is further on, by a run of the newer list.
 -- Its key is one above the m of the older list's first record, so that the newer records above that m move, and `NewerStep` says what they do to the merge and to the sums kept.
 use mathlib.Core.Path.{_≡_, _∙_}
 use mathlib.Core.Bool.{Bool}
@@ -9,9 +9,9 @@ use Rattle.arena.specs.Chain.{pUnder}
 use Rattle.searching.specs.Cut.{passes}
 use Rattle.searching.proofs.Passing.{link-reach}
 use Rattle.moving.proofs.RunLaws.{second-passes}
-use Rattle.merging.proofs.NewerStep.{newer-has, newer-room, newer-movable, newer-summable, newer-cached, newer-kept, newer-done}
-use Rattle.merging.proofs.newer_step.newer_step.Statement.{statement}
-use Rattle.merging.proofs.newer_step.newer_step.Tie as tie
+use Rattle.stepping.proofs.NewerStep.{newer-has, newer-room, newer-movable, newer-summable, newer-cached, newer-kept, newer-done}
+use Rattle.stepping.proofs.newer_step.newer_step.Statement.{statement}
+use Rattle.stepping.proofs.newer_step.newer_step.Tie as tie
 
 -- The states of a step, from the function's entry on: the older list's first record is found, its true p, and whether the next record with link 1 of the list that moves passes.
 module _ (c : tie.After-wide) where

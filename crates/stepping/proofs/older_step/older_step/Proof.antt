@@ -1,4 +1,4 @@
--- `merging::older_step::older_step` meets its contract: the merge is further on, by a run of the older list.
+-- `stepping::older_step::older_step` meets its contract: the merge is further on, by a run of the older list.
 -- Its key is the m of the newer list's first record, so that the older records that are not below it move; `OlderStep` says what they do to the merge and to the sums kept, and that the first record leaves where the last of them has its m.
 use mathlib.Core.Path.{_≡_, _∙_}
 use mathlib.Core.Bool.{Bool}
@@ -9,9 +9,9 @@ use Rattle.arena.specs.Chain.{pUnder}
 use Rattle.searching.specs.Cut.{passes}
 use Rattle.searching.proofs.Passing.{link-reach}
 use Rattle.moving.proofs.RunLaws.{second-passes}
-use Rattle.merging.proofs.OlderStep.{older-has, older-summable, older-movable, older-moved, tied, older-done, tied-kept}
-use Rattle.merging.proofs.older_step.older_step.Statement.{statement}
-use Rattle.merging.proofs.older_step.older_step.Tie as tie
+use Rattle.stepping.proofs.OlderStep.{older-has, older-summable, older-movable, older-moved, tied, older-done, tied-kept}
+use Rattle.stepping.proofs.older_step.older_step.Statement.{statement}
+use Rattle.stepping.proofs.older_step.older_step.Tie as tie
 
 -- The states of a step, from the function's entry on: the newer list's first record is found, its true p, and whether the next record with link 1 of the list that moves passes.
 module _ (c : tie.After-wide) where

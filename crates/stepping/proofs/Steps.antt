@@ -16,20 +16,21 @@ use Rattle.slicing.proofs.Batch.{raisedOlder, raisedNewer, leftAfter, batch-run
 use Rattle.arena.specs.Arena.{level, mWord, adjust}
 use Rattle.arena.specs.Chain.{All, pUnder, after, trues, leaving}
 use Rattle.arena.specs.Lazy.{lastWith}
+use Rattle.arena.specs.Carried.{paired, carried}
 use Rattle.arena.proofs.Cases.{lt-or-ge}
 use Rattle.arena.proofs.ListLaws.{all-right, last-here, last-append}
 use Rattle.arena.proofs.Frames.{all-map}
+use Rattle.arena.proofs.CarriedLaws.{trues-length, carried-cons, carried-append, carried-frame}
 use Rattle.searching.specs.Cut.{front, behind}
 use Rattle.searching.proofs.SearchLaws.{front-in}
 use Rattle.searching.proofs.CutLaws.{front-behind}
 use Rattle.dropping.specs.Dropping.{Dropped}
 use Rattle.splicing.specs.Open.{OpenChain}
 use Rattle.moving.specs.Advance.{Moved}
-use Rattle.merging.specs.Carried.{paired, carried}
-use Rattle.merging.specs.Trio.{Roomy}
-use Rattle.merging.specs.Running.{Waiting, Running}
-use Rattle.merging.proofs.TrioLaws.{trio-swap, trio-moved, newer-carried, trio-dropped, dropped-older, dropped-result, dropped-newer}
-use Rattle.merging.proofs.CarriedLaws.{trues-length, carried-cons, carried-append, carried-frame, Below, moved-older, moved-newer}
+use Rattle.stepping.specs.Trio.{Roomy}
+use Rattle.stepping.specs.Running.{Waiting, Running}
+use Rattle.stepping.proofs.TrioLaws.{trio-swap, trio-moved, newer-carried, trio-dropped, dropped-older, dropped-result, dropped-newer}
+use Rattle.stepping.proofs.MovedLaws.{Below, moved-older, moved-newer}
 
 -- Every record in front is not below the key.
 front-above : (a : List ℕ) (key : ℕ) (rs : List ℕ) → All (λ x. key ≤ mWord a x) (front a key rs)

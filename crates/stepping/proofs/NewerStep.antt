@@ -15,11 +15,11 @@ use Rattle.searching.proofs.CutLaws.{behind-shorter, all-front}
 use Rattle.dropping.proofs.DropLaws.{same-first, first-has}
 use Rattle.settling.specs.Cached.{Cached}
 use Rattle.moving.specs.Advance.{Movable, Moved, RunMoved}
-use Rattle.merging.specs.Trio.{Kept}
-use Rattle.merging.specs.Running.{Merging, Further, NewerReady, NewerDone}
-use Rattle.merging.proofs.TrioLaws.{trio-swap, trio-movable}
-use Rattle.merging.proofs.Steps.{newer-moves}
-use Rattle.merging.proofs.Confined.{confined-swap, confined-moved}
+use Rattle.stepping.specs.Trio.{Kept}
+use Rattle.stepping.specs.Running.{Merging, Further, NewerReady, NewerDone}
+use Rattle.stepping.proofs.TrioLaws.{trio-swap, trio-movable}
+use Rattle.stepping.proofs.Steps.{newer-moves}
+use Rattle.stepping.proofs.Confined.{confined-swap, confined-moved}
 
 module _ (a : List ℕ) (ho hn v : ℕ) (ends : List ℕ) (p : NewerReady a ho hn ends) (e : v ≡ word a ho 3) where
   same : v ≡ p .1

@@ -1,6 +1,6 @@
 // The step of the merge that moves a run of the older list.
-ghost use Rattle.merging.specs.Trio.{Kept};
-ghost use Rattle.merging.specs.Running.{OlderReady, OlderDone};
+ghost use Rattle.stepping.specs.Trio.{Kept};
+ghost use Rattle.stepping.specs.Running.{OlderReady, OlderDone};
 use arena::sums::true_p;
 use arena::words::get;
 use arena::words::wide;

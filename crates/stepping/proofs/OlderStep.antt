@@ -21,11 +21,11 @@ use Rattle.splicing.specs.Open.{lastSums}
 use Rattle.splicing.proofs.OpenLaws.{open-has}
 use Rattle.settling.specs.Cached.{Cached}
 use Rattle.moving.specs.Advance.{Movable, Moved, RunMoved}
-use Rattle.merging.specs.Trio.{Kept}
-use Rattle.merging.specs.Running.{Confined, Merging, Further, OlderReady, OlderDone}
-use Rattle.merging.proofs.TrioLaws.{trio-movable, trio-moved}
-use Rattle.merging.proofs.Steps.{older-stays, older-drops}
-use Rattle.merging.proofs.Confined.{confined-moved, confined-dropped}
+use Rattle.stepping.specs.Trio.{Kept}
+use Rattle.stepping.specs.Running.{Confined, Merging, Further, OlderReady, OlderDone}
+use Rattle.stepping.proofs.TrioLaws.{trio-movable, trio-moved}
+use Rattle.stepping.proofs.Steps.{older-stays, older-drops}
+use Rattle.stepping.proofs.Confined.{confined-moved, confined-dropped}
 
 module _ (a : List ℕ) (ho hn v : ℕ) (ends : List ℕ) (p : OlderReady a ho hn ends) (e : v ≡ word a hn 3) where
   same : v ≡ p .3
