@@ -14,3 +14,5 @@ pub mod TurnWalk
 pub mod Written
 pub mod Loads
 pub mod ListLaws
+pub mod CarriedLaws
+pub mod HeldLaws

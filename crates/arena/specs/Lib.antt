@@ -4,3 +4,4 @@ pub mod Chain
 pub mod Building
 pub mod Turning
 pub mod Loading
+pub mod Carried

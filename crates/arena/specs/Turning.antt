@@ -1,7 +1,9 @@
 -- How a list is turned: m and p change places and the order reverses. No public contract cites it.
 use mathlib.Core.Path.{_≡_}
+use mathlib.Core.Bool.{cond}
 use mathlib.Core.List.{List, map, reverse}
 use Prim.Native.Nat.{ℕ, _%_, _^_, _≤_}
+use lib.Dec.{ltb}
 use lib.ListN.{length, getD}
 use Rattle.arena.specs.Arena.{level, mWord, pWord, adjust}
 use Rattle.arena.specs.Lazy.{sumFrom}
@@ -16,6 +18,14 @@ pub record Suffixes (f : ℕ → ℕ) (sums : List ℕ) : Type 0 where
 -- v is the true p of record r, which the sums s lead to.
 abbrev pub TrueP : List ℕ → ℕ → List ℕ → ℕ → Type 0
 TrueP a r s v = (f : ℕ → ℕ) → Suffixes f s → v ≡ pUnder a f r
+
+-- The sums f with those below link n replaced by the sums g.
+unfoldable pub renewed : (ℕ → ℕ) → ℕ → (ℕ → ℕ) → ℕ → ℕ
+renewed g n f k = cond (ltb k n) (g k) (f k)
+
+-- The sums t are the sums s, renewed so.
+abbrev pub RenewedBelow : (ℕ → ℕ) → ℕ → List ℕ → List ℕ → Type 0
+RenewedBelow g n s t = (f : ℕ → ℕ) → Suffixes f s → Suffixes (renewed g n f) t
 
 -- The sums t are the sums s, renewed by the adjusts of record r.
 abbrev pub Renewed : List ℕ → ℕ → List ℕ → List ℕ → Type 0

@@ -13,21 +13,20 @@ use Rattle.arena.specs.Lazy.{held}
 use Rattle.arena.specs.Chain.{All, Away, Linked, Same, pUnder, after, trues}
 use Rattle.arena.specs.Building.{Built, Cleared}
 use Rattle.arena.specs.Turning.{Suffixes}
+use Rattle.arena.specs.Carried.{carried}
 use Rattle.arena.proofs.Frames.{all-map, all-both, all-refl, same-shape, linked-frame, trues-frame}
 use Rattle.arena.proofs.PutLaws.{same-trans}
-use Rattle.merging.specs.Carried.{carried}
-use Rattle.merging.specs.Cut.{Falling, Searchable}
-use Rattle.merging.specs.Open.{OpenLinked, CutC, Closed}
-use Rattle.merging.specs.Settled.{lastSums}
-use Rattle.merging.specs.Cached.{Kept}
-use Rattle.merging.specs.Trio.{Roomy, Trio}
-use Rattle.merging.specs.Running.{Merging, Finished, RunsReady, RunsDone}
-use Rattle.merging.specs.Merge.{Mergeable, Merged}
 use Rattle.arena.proofs.Summing.{suffixes-none, suffixes-agree}
-use Rattle.merging.proofs.OpenLaws.{open-empty, ends-filled}
-use Rattle.merging.proofs.CarriedLaws.{carried-frame, carried-same}
-use Rattle.merging.proofs.ClosingLaws.{closed-value, closed-same}
-use Rattle.merging.proofs.HeldLaws.{held-carried}
+use Rattle.arena.proofs.CarriedLaws.{carried-frame, carried-same}
+use Rattle.arena.proofs.HeldLaws.{held-carried}
+use Rattle.searching.specs.Cut.{Falling, Searchable}
+use Rattle.splicing.specs.Open.{OpenLinked, CutC, Closed, lastSums}
+use Rattle.splicing.proofs.OpenLaws.{open-empty, ends-filled}
+use Rattle.splicing.proofs.ClosingLaws.{closed-value, closed-same}
+use Rattle.stepping.specs.Trio.{Kept, Roomy, Trio}
+use Rattle.stepping.specs.Running.{Merging}
+use Rattle.merging.specs.Runs.{Finished, RunsReady, RunsDone}
+use Rattle.merging.specs.Merge.{Mergeable, Merged}
 
 -- The m of an ordered list falls.
 below-first : (a : List ℕ) (f : ℕ → ℕ) (m : ℕ) (rs : List ℕ) → ((z : Item) → List·Memᴰ z (items (carried a f rs)) → z .m < m) → All (λ x. mWord a x < m) rs

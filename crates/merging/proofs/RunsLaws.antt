@@ -11,11 +11,12 @@ use borrow.Author.Tests.{leb-true, le-leb, lt-leb}
 use Rattle.slicing.specs.Recorded.{Recorded, mergeRecorded}
 use Rattle.arena.specs.Arena.{word, forward, adjust}
 use Rattle.arena.specs.Chain.{Linked, trues}
+use Rattle.arena.specs.Carried.{carried}
 use Rattle.arena.proofs.Cases.{lt-or-ge}
 use Rattle.arena.proofs.Walking.{count, count-is, next-none, next-first}
-use Rattle.merging.specs.Carried.{carried}
-use Rattle.merging.specs.Cut.{Searchable}
-use Rattle.merging.specs.Running.{Merging, StepReady, StepDone, bothWait, RunsReady, RunsDone}
+use Rattle.searching.specs.Cut.{Searchable}
+use Rattle.stepping.specs.Running.{Merging}
+use Rattle.merging.specs.Runs.{StepReady, StepDone, bothWait, RunsReady, RunsDone}
 
 -- The test of the loop.
 pub none-waits : (a : List ℕ) (ho hn x : ℕ) → x ≡ word a ho 3 → x < 1 → false ≡ bothWait a ho hn

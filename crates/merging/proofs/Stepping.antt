@@ -6,8 +6,9 @@ use Prim.Native.Nat.{ℕ, _≤_, _<_}
 use native.Mathlib.Omega.{arith}
 use Rattle.arena.specs.Arena.{word, mWord}
 use Rattle.arena.specs.Chain.{Has}
-use Rattle.merging.specs.Running.{StepReady, StepDone, OlderReady, OlderDone, NewerReady, NewerDone}
-use Rattle.merging.proofs.DropLaws.{same-first, first-has}
+use Rattle.dropping.proofs.DropLaws.{same-first, first-has}
+use Rattle.stepping.specs.Running.{OlderReady, OlderDone, NewerReady, NewerDone}
+use Rattle.merging.specs.Runs.{StepReady, StepDone}
 
 module _ (a : List ℕ) (ho hn v w : ℕ) (ends : List ℕ) (e : v ≡ word a ho 3) (f : w ≡ word a hn 3) where
   pub step-older-has : StepReady a ho hn ends → Has a v

@@ -1,12 +1,12 @@
 // The runs of the merge, one after the other, while both lists have a record.
 ghost use mathlib.Core.Path.{_≡_};
 ghost use Rattle.arena.specs.Chain.{Has};
-ghost use Rattle.merging.specs.Cached.{Kept};
-ghost use Rattle.merging.specs.Running.{StepReady, StepDone, bothWait, RunsReady, RunsDone};
-use crate::newer_step::newer_step;
-use crate::older_step::older_step;
+ghost use Rattle.stepping.specs.Trio.{Kept};
+ghost use Rattle.merging.specs.Runs.{StepReady, StepDone, bothWait, RunsReady, RunsDone};
 use arena::words::get;
 use arena::words::wide;
+use stepping::newer_step::newer_step;
+use stepping::older_step::older_step;
 
 // Whether both lists have a record.
 fn both_wait(arena: &[u32], older: usize, newer: usize) -> bool
