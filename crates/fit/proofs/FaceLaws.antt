@@ -23,18 +23,18 @@ use Rattle.stored.specs.Packed.{pack, facing, ownShapes, HasList}
 use Rattle.stored.specs.Store.{Stored}
 use Rattle.stored.specs.Filling.{Fillable, Filled}
 use Rattle.fit.specs.declared.Fitted.{Fitted}
-use Rattle.fit.specs.Picking.{pickAt, Picks}
-use Rattle.fit.specs.Taking.{against}
-use Rattle.fit.specs.Laying.{shapeAt, Layable, laid}
+use Rattle.picking.specs.Picking.{pickAt, Picks}
+use Rattle.laying.specs.Taking.{against}
+use Rattle.laying.specs.Laying.{shapeAt, Layable, laid}
 use Rattle.fit.specs.Fitting.{noFace, faceFound, faceWords}
 use Rattle.fit.specs.Facing.{Placeable, PlacedIn}
 use Rattle.stored.proofs.Reading.{ItemWord}
 use Rattle.stored.proofs.StoredLists.{Low, facing-low, m-is, p-is}
-use Rattle.fit.proofs.Looking.{product-low}
+use Rattle.picking.proofs.Looking.{product-low}
 use Rattle.stored.proofs.OwnLists.{own-length}
-use Rattle.fit.proofs.PartLists.{table-inside}
-use Rattle.fit.proofs.TakeLaws.{Listed, stored-list, stored-count, stored-facing}
-use Rattle.fit.proofs.LayLaws.{root-layable}
+use Rattle.laying.proofs.PartLists.{table-inside}
+use Rattle.laying.proofs.TakeLaws.{Listed, stored-list, stored-count, stored-facing}
+use Rattle.laying.proofs.LayLaws.{root-layable}
 
 pub area-fits : (h w : ℕ) → h < 65_536 → w < 65_536 → h * w < 2 ^ 32
 area-fits h w low-h low-w = let area = product-low h w low-h low-w in omega arith

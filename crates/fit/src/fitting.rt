@@ -9,10 +9,10 @@ ghost use Rattle.fit.specs.Fitting.{fitLent, fitChecks, noFace, fitted, 
 ghost use Rattle.fit.specs.Facing.{Placeable, PlacedIn};
 ghost use Rattle.fit.specs.Demand3.{Demand3};
 use crate::Fitted;
-use crate::lay::lay;
-use crate::pick::pick;
-use crate::take::is_against;
+use laying::lay::lay;
+use laying::take::is_against;
 use parts::build::build;
+use picking::pick::pick;
 use stored::fill::store_lists;
 use stored::item::m_of;
 use stored::item::p_of;
