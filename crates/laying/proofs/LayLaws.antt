@@ -16,25 +16,20 @@ use Rattle.slicing.specs.Shapes.{shapes}
 use Rattle.slicing.specs.Fit.{noTaller, place, words}
 use Rattle.slicing.proofs.Depths.{depth-few}
 use Rattle.slicing.proofs.Placing.{words-length}
-use Rattle.facefile.specs.Kinds.{kindOf}
-use Rattle.stored.specs.Packed.{pack, facing, ownShapes}
+use Rattle.stored.specs.Packed.{pack, facing}
 use Rattle.stored.specs.Store.{Stored}
-use Rattle.laying.specs.Taking.{facingItem, against, Takable, Takes}
+use Rattle.laying.specs.Taking.{facingItem, Takable, Takes}
 use Rattle.laying.specs.Laying.{shapeAt, movedBy, Layable, laid}
-use Rattle.stored.proofs.StoredLists.{Low, facing-low, m-is, p-is}
+use Rattle.stored.proofs.StoredLists.{Low, m-is, p-is}
 use Rattle.laying.proofs.OrderLaws.{index-at}
-use Rattle.stored.proofs.OwnLists.{entry-of, own-length}
-use Rattle.laying.proofs.PartLists.{table-inside, own-facing}
+use Rattle.stored.proofs.OwnLists.{entry-of}
+use Rattle.laying.proofs.StretchLaws.{table-inside}
+use Rattle.laying.proofs.ShapeReading.{shape-low}
 use Rattle.laying.proofs.JoinLaws.{side, View, view, Edges, edges}
 
 -- The word of the item at the place of the part's list.
 abbrev pub Word : List ℕ → ℕ → ℕ → ℕ → Type 0
 Word s part k z = (t : Tree) → Stored s part t → k < length (shapes 0 t) → z ≡ pack (shapeAt t k)
-
-shape-low : (s : List ℕ) (part k : ℕ) (t : Tree) → Stored s part t → k < length (shapes 0 t) → Low (shapeAt t k)
-shape-low s part k t h inside =
-    subst (λ (l : List Item). Low (getD l k (size 0 0))) (own-facing t false)
-    (facing-low (against (kindOf t) false) s (getD s (4 * part) 0) (ownShapes t) (entry-of s part t h .list) k (omega (arith, own-length t)))
 
 -- The stores of a gauge's five words, and its words.
 five-words : (out : List ℕ) (a b c d e : ℕ) → 5 ≤ length out → set (set (set (set (set out 0 a) 1 b) 2 c) 3 d) 4 e ≡ a ∷ b ∷ c ∷ d ∷ e ∷ drop 5 out

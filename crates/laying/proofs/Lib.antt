@@ -1,6 +1,6 @@
 pub mod OrderLaws
 pub mod Searching
-pub mod PartLists
+pub mod StretchLaws
 pub mod TakeLaws
 pub mod ShapeReading
 pub mod JoinLaws

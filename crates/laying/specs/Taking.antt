@@ -1,10 +1,9 @@
 -- The item that a side of a join takes of its list, where that stands in a lent scratch. No public contract cites it.
 use mathlib.Core.Path.{_≡_}
-use mathlib.Core.Bool.{Bool, cond, not}
+use mathlib.Core.Bool.{Bool, cond}
 use mathlib.Core.List.{List, List·Memᴰ}
 use Prim.Native.Nat.{ℕ, _≤_, _<_}
 use lib.ListN.{length, getD}
-use lib.Dec.{eqb}
 use Rattle.slicing.specs.Item.{Item, size}
 use Rattle.slicing.specs.Tree.{Tree}
 use Rattle.slicing.specs.Good.{Ordered, Good}
@@ -36,9 +35,9 @@ pub record FirstLow (limit : ℕ) (l : List Item) (k : ℕ) : Type 0 where
 abbrev pub facingItem : Bool → Item → Item
 facingItem across z = cond across (swap z) z
 
--- Whether the list of a part of some kind is stored the other way than by height or, upward, than by width: of a stacked part it runs by width, of others by height.
-abbrev pub against : ℕ → Bool → Bool
-against kind upward = cond upward (not (eqb kind 0x03)) (eqb kind 0x03)
+-- The kind byte of a join, side by side or upward.
+abbrev pub joinKind : Bool → ℕ
+joinKind upward = cond upward 0x03 0x02
 
 -- A stored part, of whose shape list, by height or turned, an item is taken.
 pub record Takable (s : List ℕ) (part : ℕ) (upward : Bool) (limit : ℕ) (t : Tree) : Type 0 where

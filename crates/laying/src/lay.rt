@@ -9,13 +9,11 @@ ghost use Rattle.slicing.specs.Shapes.{shapes};
 ghost use Rattle.stored.specs.Packed.{pack};
 ghost use Rattle.stored.specs.Store.{Stored};
 ghost use Rattle.laying.specs.Laying.{shapeAt, movedBy, Layable, laid};
-use crate::take::is_against;
 use crate::take::take_item;
+use stored::fill::stretch;
 use stored::item::m_of;
 use stored::item::p_of;
 use stored::item::read_item;
-use stored::table::COUNT;
-use stored::table::FROM;
 use stored::table::GAUGE;
 use stored::table::GAUGES;
 use stored::table::KIND;
@@ -23,14 +21,12 @@ use stored::table::STACKED;
 use stored::table::part_word;
 
 // The item at a place of a part's shape list by height.
-fn item_at(scratch: &[u32], part: usize, place: usize) -> u32
+pub fn item_at(scratch: &[u32], part: usize, place: usize) -> u32
     requires { ⌜ ((t : Tree) × Stored (now scratch) part t × (place < length (shapes 0 t))) ⌝ }
     ensures { λ r. ⌜ ((t : Tree) → Stored (now (scratch .entry)) part t → place < length (shapes 0 t) → r ≡ pack (shapeAt t place)) ⌝ }
 {
-    let from = part_word(scratch, part, FROM);
-    let count = part_word(scratch, part, COUNT);
-    let across = is_against(part_word(scratch, part, KIND), false);
-    read_item(scratch, from, count, across, place)
+    let list = stretch(scratch, part, facefile::BESIDE);
+    read_item(scratch, list.from, list.count, list.across, place)
 }
 
 // What a join limits: an item's height side by side, its width upward.

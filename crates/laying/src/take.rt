@@ -4,15 +4,11 @@ ghost use mathlib.Core.List.{List};
 ghost use Rattle.slicing.specs.Item.{Item};
 ghost use Rattle.slicing.specs.Tree.{Tree};
 ghost use Rattle.stored.specs.Packed.{facing};
-ghost use Rattle.laying.specs.Taking.{Searchable, FirstLow, against, Takable, Takes};
+ghost use Rattle.laying.specs.Taking.{Searchable, FirstLow, joinKind, Takable, Takes};
+use stored::fill::stretch;
 use stored::item::m_of;
 use stored::item::p_of;
 use stored::item::read_item;
-use stored::table::COUNT;
-use stored::table::FROM;
-use stored::table::KIND;
-use stored::table::STACKED;
-use stored::table::part_word;
 
 // The place of an item in a part's shape list by height, and its length along the join.
 pub struct Taken {
@@ -40,14 +36,14 @@ fn first_no_larger(scratch: &[u32], from: usize, count: usize, across: bool, lim
     low
 }
 
-// Whether the list of a part of some kind is stored the other way than by height or, upward, than by width.
-pub fn is_against(kind: usize, upward: bool) -> bool
-    ensures { λ r. ⌜ r ≡ against kind upward ⌝ }
+// The kind of the join: stacked where it goes upward.
+fn join_kind(upward: bool) -> u8
+    ensures { λ r. ⌜ r ≡ joinKind upward ⌝ }
 {
     if upward {
-        return kind != STACKED;
+        return facefile::STACKED;
     }
-    kind == STACKED
+    facefile::BESIDE
 }
 
 // The item that a part takes at a join, side by side or upward: the first of its list by height, or by width, of at
@@ -56,14 +52,12 @@ pub fn take_item(scratch: &[u32], part: usize, upward: bool, limit: u32) -> Take
     requires { ⌜ ((t : Tree) × Takable (now scratch) part upward limit t) ⌝ }
     ensures { λ r. ⌜ ((t : Tree) → Takable (now (scratch .entry)) part upward limit t → Takes upward limit t (r .place) (r .extent)) ⌝ }
 {
-    let from = part_word(scratch, part, FROM);
-    let count = part_word(scratch, part, COUNT);
-    let across = is_against(part_word(scratch, part, KIND), upward);
-    let k = first_no_larger(scratch, from, count, across, limit);
-    let extent = p_of(read_item(scratch, from, count, across, k));
+    let list = stretch(scratch, part, join_kind(upward));
+    let k = first_no_larger(scratch, list.from, list.count, list.across, limit);
+    let extent = p_of(read_item(scratch, list.from, list.count, list.across, k));
     if upward {
         return Taken {
-            place: count - 1 - k,
+            place: list.count - 1 - k,
             extent,
         };
     }
