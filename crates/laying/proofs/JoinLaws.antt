@@ -42,7 +42,7 @@ pub record View (s : List ℕ) (part : ℕ) (upward : Bool) (t : Tree) (k x y : 
   pub both : Sides 0 (facing upward (shapes 0 a)) (facing upward (shapes 0 b)) (facingItem upward (shapeAt t k))
   pub whole : words t (place 0 t (shapeAt t k) x y) ≡ words a (place 0 a (facingItem upward (side upward (shapeAt t k) a)) x y) ++ words b (place 0 b (facingItem upward (side upward (shapeAt t k) b)) (movedBy (not upward) x (side upward (shapeAt t k) a .p)) (movedBy upward y (side upward (shapeAt t k) a .p)))
 
-module _ (s : List ℕ) (part gauges k x y : ℕ) (out : List ℕ) where
+module _ {s : List ℕ} {part gauges k x y : ℕ} {out : List ℕ} where
   view-beside : (a b : Tree) → Layable s part (beside a b) gauges k x y out → View s part false (beside a b) k x y
   unfolding shapes place
   view-beside a b h =
@@ -85,12 +85,12 @@ module _ (s : List ℕ) (part gauges k x y : ℕ) (out : List ℕ) where
             (add-zero (y + side true z a .p));
       }
 
-  pub view : (kind : ℕ) (t : Tree) → kind ≡ getD s (4 * part + 2) 0 → (kind ≡ 1 → ⊥) → Layable s part t gauges k x y out → View s part (eqb kind 3) t k x y
-  view kind (gauge z) e other h = absurd (other (e ∙ h .stored .kind-is))
-  view kind (beside a b) e other h =
+  pub view : {kind : ℕ} → kind ≡ getD s (4 * part + 2) 0 → (kind ≡ 1 → ⊥) → (t : Tree) → Layable s part t gauges k x y out → View s part (eqb kind 3) t k x y
+  view e other (gauge z) h = absurd (other (e ∙ h .stored .kind-is))
+  view {kind} e other (beside a b) h =
       let same = h .stored .0 .kind-is in
       subst (λ (u : Bool). View s part u (beside a b) k x y) (sym (ne-eqb kind 3 (λ f. absurd (omega arith)))) (view-beside a b h)
-  view kind (stacked a b) e other h =
+  view {kind} e other (stacked a b) h =
       let same = h .stored .0 .kind-is in
       subst (λ (u : Bool). View s part u (stacked a b) k x y) (sym (eq-eqb kind 3 (omega arith))) (view-stacked a b h)
 

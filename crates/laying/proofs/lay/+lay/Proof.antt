@@ -1,11 +1,14 @@
 -- `laying::lay::lay` meets its contract.
 -- The measure is the number of gauges, which each part has fewer of. A gauge's words are written at once; at a join each part takes its item and lays itself out, the newer in the stretch after the older's words.
-use native.Mathlib.Omega.{arith}
-use borrow.Author.Needs.{needs}
-use Rattle.laying.proofs.LayLaws.{layable-inside, layable-item, gauge-room, gauge-laid, join-some, newer-inside, counts, older-takes, newer-takes, right-fits, above-fits, lay-older, lay-newer, join-laid}
 use Prim.Native.Nat.{ℕ, _<_}
+use lib.Dec.{eqb}
+use lib.ListN.{length}
+use borrow.Author.Needs.{needs}
 use borrow.Fn.Kinds.{In}
 use borrow.Fn.PlainCycle.{Measures, is, falls, and}
+use Rattle.stored.proofs.table.part_word.Reads as part-word-reads
+use Rattle.laying.proofs.JoinLaws.{view}
+use Rattle.laying.proofs.LayLaws.{ready-inside, ready-item, gauge-room, gauge-laid, Join, join-some, newer-inside, Counts, counts, older-takes, newer-takes, right-fits, above-fits, lay-older, lay-newer, join-laid}
 use Rattle.laying.proofs.lay.lay.Reads as lay
 use Rattle.laying.proofs.lay.lay.Kinds as lay-kinds
 use Rattle.laying.proofs.lay.+lay.Lts-lay as lay-lts
@@ -13,7 +16,6 @@ use Rattle.laying.proofs.lay.along.Reads as along-reads
 use Rattle.laying.proofs.lay.item_at.Reads as item-at-reads
 use Rattle.laying.proofs.lay.moved.Reads as moved-reads
 use Rattle.laying.proofs.lay.write_gauge.Reads as write-gauge-reads
-use Rattle.stored.proofs.table.part_word.Reads as part-word-reads
 use Rattle.laying.proofs.take.take_item.Reads as take-item-reads
 use Rattle.laying.proofs.lay.+lay.{statement}
 use Rattle.laying.proofs.lay.+lay.Tie.{close}
@@ -21,553 +23,184 @@ use Rattle.laying.proofs.lay.+lay.Tie.{close}
 abbrev μ-lay : Measures 2 lay-kinds.ps ℕ
 μ-lay κs a = a .1 .1 .0
 
-abbrev lay-at : ℕ → In 2 lay-kinds.ps
-lay-at t = and 2 lay-kinds.ps (is 2 lay-kinds.ps μ-lay t) lay.Pre
+-- With t gauges.
+module _ (t : ℕ) where
+  abbrev asked : In 2 lay-kinds.ps
+  asked = and 2 lay-kinds.ps (is 2 lay-kinds.ps μ-lay t) lay.Pre
 
-abbrev lay-below : ℕ → In 2 lay-kinds.ps
-lay-below t = and 2 lay-kinds.ps (falls 2 lay-kinds.ps _<_ μ-lay t) lay.Pre
+  abbrev fewer : In 2 lay-kinds.ps
+  fewer = and 2 lay-kinds.ps (falls 2 lay-kinds.ps _<_ μ-lay t) lay.Pre
 
-lay-part-word-requires : (t : ℕ) → lay-lts.Need-part-word-requires (
-  part-word-reads.Asked,
-  part-word-reads.Learnt,
-  item-at-reads.Asked,
-  item-at-reads.Learnt,
-  write-gauge-reads.Asked,
-  write-gauge-reads.Learnt,
-  along-reads.Asked,
-  along-reads.Learnt,
-  take-item-reads.Asked,
-  take-item-reads.Learnt,
-  moved-reads.Asked,
-  moved-reads.Learnt,
-  lay-below t,
-  lay.Post,
-) (lay-at t) lay.Post
-lay-part-word-requires t c κs = let inside = layable-inside _ _ _ _ _ _ (c .before .before .args .out .now) (c .before .before .pre .1) in search needs
+  -- What the calls ask and tell; lay itself is called with fewer gauges.
+  abbrev calls : lay-lts.Claims
+  calls = (
+    part-word-reads.Asked,
+    part-word-reads.Learnt,
+    item-at-reads.Asked,
+    item-at-reads.Learnt,
+    write-gauge-reads.Asked,
+    write-gauge-reads.Learnt,
+    along-reads.Asked,
+    along-reads.Learnt,
+    take-item-reads.Asked,
+    take-item-reads.Learnt,
+    moved-reads.Asked,
+    moved-reads.Learnt,
+    fewer,
+    lay.Post,
+  )
 
-lay-item-at-requires : (t : ℕ) → lay-lts.Need-item-at-requires (
-  part-word-reads.Asked,
-  part-word-reads.Learnt,
-  item-at-reads.Asked,
-  item-at-reads.Learnt,
-  write-gauge-reads.Asked,
-  write-gauge-reads.Learnt,
-  along-reads.Asked,
-  along-reads.Learnt,
-  take-item-reads.Asked,
-  take-item-reads.Learnt,
-  moved-reads.Asked,
-  moved-reads.Learnt,
-  lay-below t,
-  lay.Post,
-) (lay-at t) lay.Post
-lay-item-at-requires t c κs = layable-item _ _ _ _ _ _ (c .before .before .before .args .out .now) (c .before .before .before .pre .1)
+  part-word-requires : lay-lts.Need-part-word-requires calls asked lay.Post
+  part-word-requires c κs = let inside = ready-inside (c .before .before .pre .1) in search needs
 
-lay-write-gauge-requires : (t : ℕ) → lay-lts.Need-write-gauge-requires (
-  part-word-reads.Asked,
-  part-word-reads.Learnt,
-  item-at-reads.Asked,
-  item-at-reads.Learnt,
-  write-gauge-reads.Asked,
-  write-gauge-reads.Learnt,
-  along-reads.Asked,
-  along-reads.Learnt,
-  take-item-reads.Asked,
-  take-item-reads.Learnt,
-  moved-reads.Asked,
-  moved-reads.Learnt,
-  lay-below t,
-  lay.Post,
-) (lay-at t) lay.Post
-lay-write-gauge-requires t c κs =
-    let at-part-word = c .before .before .before in
-    let entry = at-part-word .before .before .before in
-    let room = gauge-room _ _ _ _ _ _ (entry .args .out .now) _ (entry .pre .1) (at-part-word .part-word .ensures) (c .before .if1 .taken) in
-    let long = room .0 in
-    let small = room .1 in
-    (omega arith, omega arith)
+  item-at-requires : lay-lts.Need-item-at-requires calls asked lay.Post
+  item-at-requires c κs = ready-item (c .before .before .before .pre .1)
 
-lay-same-length : (t : ℕ) → lay-lts.Need-same-length (
-  part-word-reads.Asked,
-  part-word-reads.Learnt,
-  item-at-reads.Asked,
-  item-at-reads.Learnt,
-  write-gauge-reads.Asked,
-  write-gauge-reads.Learnt,
-  along-reads.Asked,
-  along-reads.Learnt,
-  take-item-reads.Asked,
-  take-item-reads.Learnt,
-  moved-reads.Asked,
-  moved-reads.Learnt,
-  lay-below t,
-  lay.Post,
-) (lay-at t) lay.Post
-lay-same-length t c = search needs
+  -- A gauge.
+  write-gauge-requires : lay-lts.Need-write-gauge-requires calls asked lay.Post
+  write-gauge-requires c κs =
+      let at-kind = c .before .before .before in
+      gauge-room (at-kind .part-word .ensures) (c .before .if1 .taken) (at-kind .before .before .before .pre .1)
 
-lay-returns : (t : ℕ) → lay-lts.Need-returns (
-  part-word-reads.Asked,
-  part-word-reads.Learnt,
-  item-at-reads.Asked,
-  item-at-reads.Learnt,
-  write-gauge-reads.Asked,
-  write-gauge-reads.Learnt,
-  along-reads.Asked,
-  along-reads.Learnt,
-  take-item-reads.Asked,
-  take-item-reads.Learnt,
-  moved-reads.Asked,
-  moved-reads.Learnt,
-  lay-below t,
-  lay.Post,
-) (lay-at t) lay.Post
-lay-returns t c =
-    let at-if1 = c .before .before .before .before in
-    let at-item-at = at-if1 .before in
-    let at-part-word = at-item-at .before in
-    let start = at-part-word .before .before .before in
-    gauge-laid _ _ _ _ _ _ (start .args .out .now) _ _ _ (at-part-word .part-word .ensures) (at-if1 .if1 .taken) (at-item-at .item-at .ensures) (c .before .before .write-gauge .ensures)
+  same-length : lay-lts.Need-same-length calls asked lay.Post
+  same-length c = search needs
 
-lay-along-requires : (t : ℕ) → lay-lts.Need-along-requires (
-  part-word-reads.Asked,
-  part-word-reads.Learnt,
-  item-at-reads.Asked,
-  item-at-reads.Learnt,
-  write-gauge-reads.Asked,
-  write-gauge-reads.Learnt,
-  along-reads.Asked,
-  along-reads.Learnt,
-  take-item-reads.Asked,
-  take-item-reads.Learnt,
-  moved-reads.Asked,
-  moved-reads.Learnt,
-  lay-below t,
-  lay.Post,
-) (lay-at t) lay.Post
-lay-along-requires t c κs = search needs
+  returns : lay-lts.Need-returns calls asked lay.Post
+  returns c =
+      let at-gauge = c .before .before .before .before in
+      let at-item = at-gauge .before in
+      gauge-laid (at-item .before .part-word .ensures) (at-gauge .if1 .taken) (at-item .item-at .ensures) (c .before .before .write-gauge .ensures)
 
-lay-sub-newer : (t : ℕ) → lay-lts.Need-sub-newer (
-  part-word-reads.Asked,
-  part-word-reads.Learnt,
-  item-at-reads.Asked,
-  item-at-reads.Learnt,
-  write-gauge-reads.Asked,
-  write-gauge-reads.Learnt,
-  along-reads.Asked,
-  along-reads.Learnt,
-  take-item-reads.Asked,
-  take-item-reads.Learnt,
-  moved-reads.Asked,
-  moved-reads.Learnt,
-  lay-below t,
-  lay.Post,
-) (lay-at t) lay.Post
-lay-sub-newer t c =
-    let at-part-word = c .before .before .before in
-    let entry = at-part-word .before .before .before in
-    join-some _ _ _ _ _ _ (entry .args .out .now) _ (at-part-word .part-word .ensures) (c .before .if1 .left) (entry .pre .1)
+  -- A join.
+  along-requires : lay-lts.Need-along-requires calls asked lay.Post
+  along-requires c κs = search needs
 
-lay-part-word-requires-2 : (t : ℕ) → lay-lts.Need-part-word-requires-2 (
-  part-word-reads.Asked,
-  part-word-reads.Learnt,
-  item-at-reads.Asked,
-  item-at-reads.Learnt,
-  write-gauge-reads.Asked,
-  write-gauge-reads.Learnt,
-  along-reads.Asked,
-  along-reads.Learnt,
-  take-item-reads.Asked,
-  take-item-reads.Learnt,
-  moved-reads.Asked,
-  moved-reads.Learnt,
-  lay-below t,
-  lay.Post,
-) (lay-at t) lay.Post
-lay-part-word-requires-2 t c κs = let inside = newer-inside _ _ _ _ _ _ (c .before .before .before .before .before .before .args .out .now) _ (c .before .before .before .part-word .ensures) (c .before .if1 .left) (c .before .before .before .before .before .before .pre .1) in search needs
+  module _ (c : lay-lts.After-along calls asked lay.Post) where
+    abbrev at-item : lay-lts.After-item-at calls asked lay.Post
+    at-item = c .before .before
 
-lay-mul-older : (t : ℕ) → lay-lts.Need-mul-older (
-  part-word-reads.Asked,
-  part-word-reads.Learnt,
-  item-at-reads.Asked,
-  item-at-reads.Learnt,
-  write-gauge-reads.Asked,
-  write-gauge-reads.Learnt,
-  along-reads.Asked,
-  along-reads.Learnt,
-  take-item-reads.Asked,
-  take-item-reads.Learnt,
-  moved-reads.Asked,
-  moved-reads.Learnt,
-  lay-below t,
-  lay.Post,
-) (lay-at t) lay.Post
-lay-mul-older t c = let n = counts _ _ _ _ _ _ (c .before .before .before .before .before .before .before .args .out .now) _ (c .before .before .before .before .part-word .ensures) (c .before .before .if1 .left) _ (c .part-word2 .ensures) (c .before .before .before .before .before .before .before .pre .1) in search needs
+    abbrev start : lay-lts.Start calls asked lay.Post
+    start = at-item .before .before .before .before
 
-lay-sub-older : (t : ℕ) → lay-lts.Need-sub-older (
-  part-word-reads.Asked,
-  part-word-reads.Learnt,
-  item-at-reads.Asked,
-  item-at-reads.Learnt,
-  write-gauge-reads.Asked,
-  write-gauge-reads.Learnt,
-  along-reads.Asked,
-  along-reads.Learnt,
-  take-item-reads.Asked,
-  take-item-reads.Learnt,
-  moved-reads.Asked,
-  moved-reads.Learnt,
-  lay-below t,
-  lay.Post,
-) (lay-at t) lay.Post
-lay-sub-older t c = let n = counts _ _ _ _ _ _ (c .before .before .before .before .before .before .before .args .out .now) _ (c .before .before .before .before .part-word .ensures) (c .before .before .if1 .left) _ (c .part-word2 .ensures) (c .before .before .before .before .before .before .before .pre .1) in search needs
+    join : Join (start .args .scratch .now) (start .args .part) (start .args .gauges) (start .args .place) (start .args .x) (start .args .y) (start .args .out .now) (eqb (at-item .before .part-word .result) 3) (at-item .item-at .result) (c .along .result)
+    join =
+        record {
+          ready = start .pre .1;
+          seen = view (at-item .before .part-word .ensures) (c .before .if1 .left);
+          word = at-item .item-at .ensures;
+          limit-is = c .along .ensures;
+        }
 
-lay-sub-first : (t : ℕ) → lay-lts.Need-sub-first (
-  part-word-reads.Asked,
-  part-word-reads.Learnt,
-  item-at-reads.Asked,
-  item-at-reads.Learnt,
-  write-gauge-reads.Asked,
-  write-gauge-reads.Learnt,
-  along-reads.Asked,
-  along-reads.Learnt,
-  take-item-reads.Asked,
-  take-item-reads.Learnt,
-  moved-reads.Asked,
-  moved-reads.Learnt,
-  lay-below t,
-  lay.Post,
-) (lay-at t) lay.Post
-lay-sub-first t c = let n = counts _ _ _ _ _ _ (c .before .before .before .before .before .before .before .args .out .now) _ (c .before .before .before .before .part-word .ensures) (c .before .before .if1 .left) _ (c .part-word2 .ensures) (c .before .before .before .before .before .before .before .pre .1) in search needs
+  sub-newer : lay-lts.Need-sub-newer calls asked lay.Post
+  sub-newer c = join-some (join c)
 
-lay-take-item-requires : (t : ℕ) → lay-lts.Need-take-item-requires (
-  part-word-reads.Asked,
-  part-word-reads.Learnt,
-  item-at-reads.Asked,
-  item-at-reads.Learnt,
-  write-gauge-reads.Asked,
-  write-gauge-reads.Learnt,
-  along-reads.Asked,
-  along-reads.Learnt,
-  take-item-reads.Asked,
-  take-item-reads.Learnt,
-  moved-reads.Asked,
-  moved-reads.Learnt,
-  lay-below t,
-  lay.Post,
-) (lay-at t) lay.Post
-lay-take-item-requires t c κs =
-    let at-item-at = c .before .before .before in
-    let at-part-word = at-item-at .before in
-    let entry = at-part-word .before .before .before in
-    older-takes _ _ _ _ _ _ (entry .args .out .now) _ (at-part-word .part-word .ensures) (c .before .before .if1 .left) _ (c .part-word2 .ensures) _ _ (at-item-at .item-at .ensures) (c .before .along .ensures) (entry .pre .1)
+  part-word-requires-2 : lay-lts.Need-part-word-requires-2 calls asked lay.Post
+  part-word-requires-2 c κs = let inside = newer-inside (join c) in search needs
 
-lay-take-item-requires-2 : (t : ℕ) → lay-lts.Need-take-item-requires-2 (
-  part-word-reads.Asked,
-  part-word-reads.Learnt,
-  item-at-reads.Asked,
-  item-at-reads.Learnt,
-  write-gauge-reads.Asked,
-  write-gauge-reads.Learnt,
-  along-reads.Asked,
-  along-reads.Learnt,
-  take-item-reads.Asked,
-  take-item-reads.Learnt,
-  moved-reads.Asked,
-  moved-reads.Learnt,
-  lay-below t,
-  lay.Post,
-) (lay-at t) lay.Post
-lay-take-item-requires-2 t c κs =
-    let at-if1 = c .before .before .before in
-    let at-item-at = at-if1 .before in
-    let at-part-word = at-item-at .before in
-    let entry = at-part-word .before .before .before in
-    newer-takes _ _ _ _ _ _ (entry .args .out .now) _ (at-part-word .part-word .ensures) (at-if1 .if1 .left) _ (c .before .part-word2 .ensures) _ _ (at-item-at .item-at .ensures) (c .before .before .along .ensures) (entry .pre .1)
+  counted : (c : lay-lts.After-part-word2 calls asked lay.Post) → Counts (start (c .before) .args .part) (start (c .before) .args .gauges) (c .part-word2 .result) (length (start (c .before) .args .out .now))
+  counted c = counts (join (c .before)) (c .part-word2 .ensures)
 
-lay-moved-requires : (t : ℕ) → lay-lts.Need-moved-requires (
-  part-word-reads.Asked,
-  part-word-reads.Learnt,
-  item-at-reads.Asked,
-  item-at-reads.Learnt,
-  write-gauge-reads.Asked,
-  write-gauge-reads.Learnt,
-  along-reads.Asked,
-  along-reads.Learnt,
-  take-item-reads.Asked,
-  take-item-reads.Learnt,
-  moved-reads.Asked,
-  moved-reads.Learnt,
-  lay-below t,
-  lay.Post,
-) (lay-at t) lay.Post
-lay-moved-requires t c κs =
-    let at-along = c .before .before .before in
-    let at-if1 = at-along .before in
-    let at-item-at = at-if1 .before in
-    let at-part-word = at-item-at .before in
-    let entry = at-part-word .before .before .before in
-    right-fits _ _ _ _ _ _ (entry .args .out .now) _ (at-part-word .part-word .ensures) (at-if1 .if1 .left) _ (c .before .before .part-word2 .ensures) _ _ (at-item-at .item-at .ensures) (at-along .along .ensures) _ _ _ _ (c .before .take-item .ensures) (c .take-item2 .ensures) (entry .pre .1)
+  mul-older : lay-lts.Need-mul-older calls asked lay.Post
+  mul-older c = let n = counted c in search needs
 
-lay-moved-requires-2 : (t : ℕ) → lay-lts.Need-moved-requires-2 (
-  part-word-reads.Asked,
-  part-word-reads.Learnt,
-  item-at-reads.Asked,
-  item-at-reads.Learnt,
-  write-gauge-reads.Asked,
-  write-gauge-reads.Learnt,
-  along-reads.Asked,
-  along-reads.Learnt,
-  take-item-reads.Asked,
-  take-item-reads.Learnt,
-  moved-reads.Asked,
-  moved-reads.Learnt,
-  lay-below t,
-  lay.Post,
-) (lay-at t) lay.Post
-lay-moved-requires-2 t c κs =
-    let at-part-word2 = c .before .before .before in
-    let at-along = at-part-word2 .before in
-    let at-if1 = at-along .before in
-    let at-item-at = at-if1 .before in
-    let at-part-word = at-item-at .before in
-    let entry = at-part-word .before .before .before in
-    above-fits _ _ _ _ _ _ (entry .args .out .now) _ (at-part-word .part-word .ensures) (at-if1 .if1 .left) _ (at-part-word2 .part-word2 .ensures) _ _ (at-item-at .item-at .ensures) (at-along .along .ensures) _ _ _ _ (c .before .before .take-item .ensures) (c .before .take-item2 .ensures) (entry .pre .1)
+  sub-older : lay-lts.Need-sub-older calls asked lay.Post
+  sub-older c = let n = counted c in search needs
 
-lay-lay-requires : (t : ℕ) → lay-lts.Need-lay-requires (
-  part-word-reads.Asked,
-  part-word-reads.Learnt,
-  item-at-reads.Asked,
-  item-at-reads.Learnt,
-  write-gauge-reads.Asked,
-  write-gauge-reads.Learnt,
-  along-reads.Asked,
-  along-reads.Learnt,
-  take-item-reads.Asked,
-  take-item-reads.Learnt,
-  moved-reads.Asked,
-  moved-reads.Learnt,
-  lay-below t,
-  lay.Post,
-) (lay-at t) lay.Post
-lay-lay-requires t c κs =
-    let at-take-item2 = c .before .before .before in
-    let at-take-item = at-take-item2 .before in
-    let at-part-word2 = at-take-item .before in
-    let at-along = at-part-word2 .before in
-    let at-if1 = at-along .before in
-    let at-item-at = at-if1 .before in
-    let at-part-word = at-item-at .before in
-    let entry = at-part-word .before .before .before in
-    lay-older _ _ _ _ _ _ (entry .args .out .now) _ (at-part-word .part-word .ensures) (at-if1 .if1 .left) _ (at-part-word2 .part-word2 .ensures) _ _ (at-item-at .item-at .ensures) (at-along .along .ensures) _ _ _ _ (at-take-item .take-item .ensures) (at-take-item2 .take-item2 .ensures) _ (entry .pre .0) (entry .pre .1)
+  sub-first : lay-lts.Need-sub-first calls asked lay.Post
+  sub-first c = let n = counted c in search needs
 
-lay-mul-lay : (t : ℕ) → lay-lts.Need-mul-lay (
-  part-word-reads.Asked,
-  part-word-reads.Learnt,
-  item-at-reads.Asked,
-  item-at-reads.Learnt,
-  write-gauge-reads.Asked,
-  write-gauge-reads.Learnt,
-  along-reads.Asked,
-  along-reads.Learnt,
-  take-item-reads.Asked,
-  take-item-reads.Learnt,
-  moved-reads.Asked,
-  moved-reads.Learnt,
-  lay-below t,
-  lay.Post,
-) (lay-at t) lay.Post
-lay-mul-lay t c = let n = counts _ _ _ _ _ _ (c .before .before .before .before .before .before .before .before .before .before .before .before .before .before .before .args .out .now) _ (c .before .before .before .before .before .before .before .before .before .before .before .before .part-word .ensures) (c .before .before .before .before .before .before .before .before .before .before .if1 .left) _ (c .before .before .before .before .before .before .before .before .part-word2 .ensures) (c .before .before .before .before .before .before .before .before .before .before .before .before .before .before .before .pre .1) in search needs
+  take-item-requires : lay-lts.Need-take-item-requires calls asked lay.Post
+  take-item-requires c κs = older-takes (join (c .before)) (c .part-word2 .ensures)
 
-lay-mul-lay-2 : (t : ℕ) → lay-lts.Need-mul-lay-2 (
-  part-word-reads.Asked,
-  part-word-reads.Learnt,
-  item-at-reads.Asked,
-  item-at-reads.Learnt,
-  write-gauge-reads.Asked,
-  write-gauge-reads.Learnt,
-  along-reads.Asked,
-  along-reads.Learnt,
-  take-item-reads.Asked,
-  take-item-reads.Learnt,
-  moved-reads.Asked,
-  moved-reads.Learnt,
-  lay-below t,
-  lay.Post,
-) (lay-at t) lay.Post
-lay-mul-lay-2 t c = let n = counts _ _ _ _ _ _ (c .before .before .before .before .before .before .before .before .before .before .before .before .before .before .before .args .out .now) _ (c .before .before .before .before .before .before .before .before .before .before .before .before .part-word .ensures) (c .before .before .before .before .before .before .before .before .before .before .if1 .left) _ (c .before .before .before .before .before .before .before .before .part-word2 .ensures) (c .before .before .before .before .before .before .before .before .before .before .before .before .before .before .before .pre .1) in search needs
+  take-item-requires-2 : lay-lts.Need-take-item-requires-2 calls asked lay.Post
+  take-item-requires-2 c κs = newer-takes (join (c .before .before)) (c .before .part-word2 .ensures)
 
-lay-sub-lay : (t : ℕ) → lay-lts.Need-sub-lay (
-  part-word-reads.Asked,
-  part-word-reads.Learnt,
-  item-at-reads.Asked,
-  item-at-reads.Learnt,
-  write-gauge-reads.Asked,
-  write-gauge-reads.Learnt,
-  along-reads.Asked,
-  along-reads.Learnt,
-  take-item-reads.Asked,
-  take-item-reads.Learnt,
-  moved-reads.Asked,
-  moved-reads.Learnt,
-  lay-below t,
-  lay.Post,
-) (lay-at t) lay.Post
-lay-sub-lay t c = let n = counts _ _ _ _ _ _ (c .before .before .before .before .before .before .before .before .before .before .before .before .before .before .before .args .out .now) _ (c .before .before .before .before .before .before .before .before .before .before .before .before .part-word .ensures) (c .before .before .before .before .before .before .before .before .before .before .if1 .left) _ (c .before .before .before .before .before .before .before .before .part-word2 .ensures) (c .before .before .before .before .before .before .before .before .before .before .before .before .before .before .before .pre .1) in search needs
+  moved-requires : lay-lts.Need-moved-requires calls asked lay.Post
+  moved-requires c κs =
+      let at-rest = c .before .before in
+      right-fits (join (at-rest .before)) (at-rest .part-word2 .ensures) (c .before .take-item .ensures) (c .take-item2 .ensures)
 
-lay-part-lay-start : (t : ℕ) → lay-lts.Need-part-lay-start (
-  part-word-reads.Asked,
-  part-word-reads.Learnt,
-  item-at-reads.Asked,
-  item-at-reads.Learnt,
-  write-gauge-reads.Asked,
-  write-gauge-reads.Learnt,
-  along-reads.Asked,
-  along-reads.Learnt,
-  take-item-reads.Asked,
-  take-item-reads.Learnt,
-  moved-reads.Asked,
-  moved-reads.Learnt,
-  lay-below t,
-  lay.Post,
-) (lay-at t) lay.Post
-lay-part-lay-start t c = let n = counts _ _ _ _ _ _ (c .before .before .before .before .before .before .before .before .before .before .before .before .before .before .before .args .out .now) _ (c .before .before .before .before .before .before .before .before .before .before .before .before .part-word .ensures) (c .before .before .before .before .before .before .before .before .before .before .if1 .left) _ (c .before .before .before .before .before .before .before .before .part-word2 .ensures) (c .before .before .before .before .before .before .before .before .before .before .before .before .before .before .before .pre .1) in search needs
+  moved-requires-2 : lay-lts.Need-moved-requires-2 calls asked lay.Post
+  moved-requires-2 c κs =
+      let at-rest = c .before .before .before in
+      above-fits (join (at-rest .before)) (at-rest .part-word2 .ensures) (c .before .before .take-item .ensures) (c .before .take-item2 .ensures)
 
-lay-part-lay-end : (t : ℕ) → lay-lts.Need-part-lay-end (
-  part-word-reads.Asked,
-  part-word-reads.Learnt,
-  item-at-reads.Asked,
-  item-at-reads.Learnt,
-  write-gauge-reads.Asked,
-  write-gauge-reads.Learnt,
-  along-reads.Asked,
-  along-reads.Learnt,
-  take-item-reads.Asked,
-  take-item-reads.Learnt,
-  moved-reads.Asked,
-  moved-reads.Learnt,
-  lay-below t,
-  lay.Post,
-) (lay-at t) lay.Post
-lay-part-lay-end t c = let n = counts _ _ _ _ _ _ (c .before .before .before .before .before .before .before .before .before .before .before .before .before .before .before .args .out .now) _ (c .before .before .before .before .before .before .before .before .before .before .before .before .part-word .ensures) (c .before .before .before .before .before .before .before .before .before .before .if1 .left) _ (c .before .before .before .before .before .before .before .before .part-word2 .ensures) (c .before .before .before .before .before .before .before .before .before .before .before .before .before .before .before .pre .1) in search needs
+  lay-requires : lay-lts.Need-lay-requires calls asked lay.Post
+  lay-requires c κs =
+      let at-newer = c .before .before .before in
+      let at-rest = at-newer .before .before in
+      lay-older (join (at-rest .before)) (at-rest .part-word2 .ensures) (at-newer .before .take-item .ensures) (at-newer .take-item2 .ensures) (start (at-rest .before) .pre .0)
 
-lay-lay-requires-2 : (t : ℕ) → lay-lts.Need-lay-requires-2 (
-  part-word-reads.Asked,
-  part-word-reads.Learnt,
-  item-at-reads.Asked,
-  item-at-reads.Learnt,
-  write-gauge-reads.Asked,
-  write-gauge-reads.Learnt,
-  along-reads.Asked,
-  along-reads.Learnt,
-  take-item-reads.Asked,
-  take-item-reads.Learnt,
-  moved-reads.Asked,
-  moved-reads.Learnt,
-  lay-below t,
-  lay.Post,
-) (lay-at t) lay.Post
-lay-lay-requires-2 t c κs =
-    let at-lay = c .before .before .before in
-    let at-moved2 = at-lay .before .before in
-    let at-moved = at-moved2 .before in
-    let at-take-item2 = at-moved .before in
-    let at-take-item = at-take-item2 .before in
-    let at-part-word2 = at-take-item .before in
-    let at-along = at-part-word2 .before in
-    let at-if1 = at-along .before in
-    let at-item-at = at-if1 .before in
-    let at-part-word = at-item-at .before in
-    let entry = at-part-word .before .before .before in
-    lay-newer _ _ _ _ _ _ (entry .args .out .now) _ (at-part-word .part-word .ensures) (at-if1 .if1 .left) _ (at-part-word2 .part-word2 .ensures) _ _ (at-item-at .item-at .ensures) (at-along .along .ensures) _ _ _ _ (at-take-item .take-item .ensures) (at-take-item2 .take-item2 .ensures) _ _ (at-moved .moved .ensures) (at-moved2 .moved2 .ensures) (at-lay .lay .last .1 .1 .1 .1 .1 .1 .0) (at-lay .lay .kept .1 .1 .1 .1 .1 .1 .0) _ (entry .pre .0) (entry .pre .1)
+  -- The older part is laid out.
+  module _ (c : lay-lts.After-lay calls asked lay.Post) where
+    abbrev at-above : lay-lts.After-moved2 calls asked lay.Post
+    at-above = c .before .before
 
-lay-same-length-2 : (t : ℕ) → lay-lts.Need-same-length-2 (
-  part-word-reads.Asked,
-  part-word-reads.Learnt,
-  item-at-reads.Asked,
-  item-at-reads.Learnt,
-  write-gauge-reads.Asked,
-  write-gauge-reads.Learnt,
-  along-reads.Asked,
-  along-reads.Learnt,
-  take-item-reads.Asked,
-  take-item-reads.Learnt,
-  moved-reads.Asked,
-  moved-reads.Learnt,
-  lay-below t,
-  lay.Post,
-) (lay-at t) lay.Post
-lay-same-length-2 t c = search needs
+    abbrev at-newer : lay-lts.After-take-item2 calls asked lay.Post
+    at-newer = at-above .before .before
 
-lay-returns-2 : (t : ℕ) → lay-lts.Need-returns-2 (
-  part-word-reads.Asked,
-  part-word-reads.Learnt,
-  item-at-reads.Asked,
-  item-at-reads.Learnt,
-  write-gauge-reads.Asked,
-  write-gauge-reads.Learnt,
-  along-reads.Asked,
-  along-reads.Learnt,
-  take-item-reads.Asked,
-  take-item-reads.Learnt,
-  moved-reads.Asked,
-  moved-reads.Learnt,
-  lay-below t,
-  lay.Post,
-) (lay-at t) lay.Post
-lay-returns-2 t c =
-    let at-lay = c .before .before .before .before .before .before in
-    let at-moved2 = at-lay .before .before in
-    let at-moved = at-moved2 .before in
-    let at-take-item2 = at-moved .before in
-    let at-take-item = at-take-item2 .before in
-    let at-part-word2 = at-take-item .before in
-    let at-along = at-part-word2 .before in
-    let at-if1 = at-along .before in
-    let at-item-at = at-if1 .before in
-    let at-part-word = at-item-at .before in
-    let start = at-part-word .before .before .before in
-    join-laid _ _ _ _ _ _ (start .args .out .now) _ (at-part-word .part-word .ensures) (at-if1 .if1 .left) _ (at-part-word2 .part-word2 .ensures) _ _ (at-item-at .item-at .ensures) (at-along .along .ensures) _ _ _ _ (at-take-item .take-item .ensures) (at-take-item2 .take-item2 .ensures) _ _ (at-moved .moved .ensures) (at-moved2 .moved2 .ensures) (at-lay .lay .last .1 .1 .1 .1 .1 .1 .0) (at-lay .lay .kept .1 .1 .1 .1 .1 .1 .0) _ (at-lay .lay .ensures) (c .before .before .lay2 .ensures)
+    abbrev at-rest : lay-lts.After-part-word2 calls asked lay.Post
+    at-rest = at-newer .before .before
+
+  mul-lay : lay-lts.Need-mul-lay calls asked lay.Post
+  mul-lay c = let n = counted (at-rest (c .before .before)) in search needs
+
+  mul-lay-2 : lay-lts.Need-mul-lay-2 calls asked lay.Post
+  mul-lay-2 c = let n = counted (at-rest (c .before .before)) in search needs
+
+  sub-lay : lay-lts.Need-sub-lay calls asked lay.Post
+  sub-lay c = let n = counted (at-rest (c .before .before)) in search needs
+
+  part-lay-start : lay-lts.Need-part-lay-start calls asked lay.Post
+  part-lay-start c = let n = counted (at-rest (c .before .before)) in search needs
+
+  part-lay-end : lay-lts.Need-part-lay-end calls asked lay.Post
+  part-lay-end c = let n = counted (at-rest (c .before .before)) in search needs
+
+  lay-requires-2 : lay-lts.Need-lay-requires-2 calls asked lay.Post
+  lay-requires-2 c κs =
+      let at-lay = c .before .before .before in
+      let at-join = at-rest at-lay .before in
+      lay-newer (join at-join) (at-rest at-lay .part-word2 .ensures) (at-newer at-lay .before .take-item .ensures) (at-newer at-lay .take-item2 .ensures) (at-above at-lay .before .moved .ensures) (at-above at-lay .moved2 .ensures) (at-lay .lay .last .1 .1 .1 .1 .1 .1 .0) (at-lay .lay .kept .1 .1 .1 .1 .1 .1 .0) (start at-join .pre .0)
+
+  same-length-2 : lay-lts.Need-same-length-2 calls asked lay.Post
+  same-length-2 c = search needs
+
+  returns-2 : lay-lts.Need-returns-2 calls asked lay.Post
+  returns-2 c =
+      let at-lay = c .before .before .before .before .before .before in
+      join-laid (join (at-rest at-lay .before)) (at-rest at-lay .part-word2 .ensures) (at-newer at-lay .before .take-item .ensures) (at-newer at-lay .take-item2 .ensures) (at-above at-lay .before .moved .ensures) (at-above at-lay .moved2 .ensures) (at-lay .lay .last .1 .1 .1 .1 .1 .1 .0) (at-lay .lay .kept .1 .1 .1 .1 .1 .1 .0) (at-lay .lay .ensures) (c .before .before .lay2 .ensures)
 
 pub +lay-spec : {M : Type 1} → statement M
-+lay-spec = close μ-lay λ t. lay-lts.spec (
-  part-word-reads.Asked,
-  part-word-reads.Learnt,
-  item-at-reads.Asked,
-  item-at-reads.Learnt,
-  write-gauge-reads.Asked,
-  write-gauge-reads.Learnt,
-  along-reads.Asked,
-  along-reads.Learnt,
-  take-item-reads.Asked,
-  take-item-reads.Learnt,
-  moved-reads.Asked,
-  moved-reads.Learnt,
-  lay-below t,
-  lay.Post,
-)
-    (lay-at t)
++lay-spec =
+    close
+    μ-lay
+    λ t.
+    lay-lts.spec
+    (calls t)
+    (asked t)
     lay.Post
-    (lay-part-word-requires t)
-    (lay-item-at-requires t)
-    (lay-write-gauge-requires t)
-    (lay-same-length t)
-    (lay-returns t)
-    (lay-along-requires t)
-    (lay-sub-newer t)
-    (lay-part-word-requires-2 t)
-    (lay-mul-older t)
-    (lay-sub-older t)
-    (lay-sub-first t)
-    (lay-take-item-requires t)
-    (lay-take-item-requires-2 t)
-    (lay-moved-requires t)
-    (lay-moved-requires-2 t)
-    (lay-lay-requires t)
-    (lay-mul-lay t)
-    (lay-mul-lay-2 t)
-    (lay-sub-lay t)
-    (lay-part-lay-start t)
-    (lay-part-lay-end t)
-    (lay-lay-requires-2 t)
-    (lay-same-length-2 t)
-    (lay-returns-2 t)
+    (part-word-requires t)
+    (item-at-requires t)
+    (write-gauge-requires t)
+    (same-length t)
+    (returns t)
+    (along-requires t)
+    (sub-newer t)
+    (part-word-requires-2 t)
+    (mul-older t)
+    (sub-older t)
+    (sub-first t)
+    (take-item-requires t)
+    (take-item-requires-2 t)
+    (moved-requires t)
+    (moved-requires-2 t)
+    (lay-requires t)
+    (mul-lay t)
+    (mul-lay-2 t)
+    (sub-lay t)
+    (part-lay-start t)
+    (part-lay-end t)
+    (lay-requires-2 t)
+    (same-length-2 t)
+    (returns-2 t)
