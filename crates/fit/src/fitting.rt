@@ -9,18 +9,14 @@ ghost use Rattle.fit.specs.Fitting.{fitAsks, noFace};
 ghost use Rattle.fit.specs.Facing.{Placeable, PlacedIn};
 ghost use Rattle.fit.specs.Promise.{FitPromise};
 use crate::Fitted;
-use crate::lay::lay;
-use crate::pick::pick;
-use crate::take::is_against;
+use laying::lay::item_at;
+use laying::lay::lay;
 use parts::build::build;
+use picking::pick::pick;
 use stored::fill::store_lists;
+use stored::fill::stretch;
 use stored::item::m_of;
 use stored::item::p_of;
-use stored::item::read_item;
-use stored::table::COUNT;
-use stored::table::FROM;
-use stored::table::KIND;
-use stored::table::part_word;
 
 // How many words the buffers have that a call is lent.
 struct Lengths {
@@ -82,17 +78,15 @@ pub fn place_face(
     ensures { λ r. ⌜ PlacedIn (now (file .entry)) (outline height width) r (now (output .entry)) (now (output .exit)) ⌝ }
 {
     let root = store_lists(file, scratch);
-    let from = part_word(scratch, root, FROM);
-    let count = part_word(scratch, root, COUNT);
-    let across = is_against(part_word(scratch, root, KIND), false);
-    let picked = pick(scratch, from, count, across, height, width);
+    let list = stretch(scratch, root, facefile::BESIDE);
+    let picked = pick(scratch, list.from, list.count, list.across, height, width);
     if !picked.found {
         return refused(checks::FITS);
     }
     let place = picked.place;
-    let z = read_item(scratch, from, count, across, place);
+    let z = item_at(scratch, root, place);
     lay(scratch, root, gauges, place, 0, 0, output);
-    found(z, count as u32)
+    found(z, list.count as u32)
 }
 
 // Checks 1 to 18, then the smallest face inside the opening, its layout in the output and its list in the arena; 19 where

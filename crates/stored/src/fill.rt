@@ -74,7 +74,7 @@ fn byte_of(x: usize) -> u8
 }
 
 // The list of a part, to be read the way of a join.
-fn stretch(scratch: &[u32], part: usize, join: u8) -> Stretch
+pub fn stretch(scratch: &[u32], part: usize, join: u8) -> Stretch
     requires { ⌜ (4 * part + 3 < length (now scratch)) × (getD (now scratch) (4 * part + 2) 0 < 256) ⌝ }
     ensures { λ r. ⌜ r ≡ stretchOf (now (scratch .entry)) part join ⌝ }
 {

@@ -2,7 +2,7 @@
 -- The height and the width are the halves of the word, both below 65,536, so their product is a word.
 use native.Mathlib.Omega.{arith}
 use borrow.Author.Needs.{needs}
-use Rattle.fit.proofs.Looking.{halves-low}
+use Rattle.picking.proofs.Looking.{halves-low}
 use Rattle.fit.proofs.FaceLaws.{area-fits, found-is}
 use Rattle.fit.proofs.fitting.found.Statement.{statement}
 use Rattle.fit.proofs.fitting.found.Tie as tie

@@ -1,0 +1,7 @@
+pub mod OrderLaws
+pub mod Searching
+pub mod StretchLaws
+pub mod TakeLaws
+pub mod ShapeReading
+pub mod JoinLaws
+pub mod LayLaws
