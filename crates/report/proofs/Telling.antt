@@ -6,6 +6,7 @@ use Prim.Native.Nat.{ℕ, _*_, _≤_, _<_}
 use native.Mathlib.Omega.{arith}
 use lib.ListN.{length, take, drop, length-take}
 use lib.Seq.{take-at, length-take-le}
+use Rattle.text.specs.Printing.{Printed}
 use Rattle.slicing.specs.Item.{Item}
 use Rattle.slicing.specs.Tree.{Tree, gaugeCount}
 use Rattle.slicing.specs.Shapes.{shapes}
@@ -25,7 +26,7 @@ use Rattle.fit.specs.declared.Fitted.{Fitted}
 use Rattle.fit.specs.Fitting.{faceFound, faceWords}
 use Rattle.fit.specs.Facing.{PlacedFace, PlacedIn}
 use Rattle.report.specs.Text.{facesText, refusedText}
-use Rattle.report.specs.Printing.{Printed, textBytes}
+use Rattle.report.specs.Room.{textBytes}
 use Rattle.report.specs.Faces.{widest, pickPrinted, answerPrinted, facesPrinted, FacesText}
 use Rattle.report.specs.Telling.{Tallied, Levelled, Worked}
 use Rattle.report.proofs.Levelling.{sizes-most}

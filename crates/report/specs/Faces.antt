@@ -3,6 +3,7 @@ use mathlib.Core.Path.{_≡_}
 use mathlib.Core.List.{List}
 use Prim.Native.Nat.{ℕ, _≤_, _<_}
 use lib.ListN.{length}
+use Rattle.text.specs.Printing.{Printed}
 use Rattle.checks.specs.Check.{Fits, numberOf}
 use Rattle.checks.specs.Answer.{Answer, refused, taken}
 use Rattle.slicing.specs.Tree.{Tree}
@@ -11,7 +12,7 @@ use Rattle.slicing.specs.Layout.{Outline, outline}
 use Rattle.slicing.specs.Fit.{Pick, nothing, picked, smallest, place, words}
 use Rattle.facefile.specs.Format.{faceOf}
 use Rattle.report.specs.Text.{facesText, refusedText}
-use Rattle.report.specs.Printing.{Printed, textBytes}
+use Rattle.report.specs.Room.{textBytes}
 
 -- The opening, 64,000 by 64,000.
 abbrev pub widest : Outline

@@ -2,10 +2,11 @@
 ghost use mathlib.Core.Path.{_≡_};
 ghost use Prim.Native.Nat.{_*_, _≤_};
 ghost use lib.ListN.{length};
+ghost use Rattle.text.specs.Printing.{Printed, Counted};
 ghost use Rattle.slicing.specs.Tree.{Tree};
 ghost use Rattle.slicing.specs.Shapes.{shapes as shapesOf};
 ghost use Rattle.slicing.specs.Fit.{smallest};
-ghost use Rattle.report.specs.Printing.{Printed, Counted, textBytes};
+ghost use Rattle.report.specs.Room.{textBytes};
 ghost use Rattle.report.specs.Faces.{widest, pickPrinted, facesPrinted, FacesText};
 ghost use Rattle.report.specs.Telling.{Tallied, Levelled, Worked};
 use crate::TEXT;

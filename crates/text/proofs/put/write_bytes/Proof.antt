@@ -1,11 +1,11 @@
--- `report::put::write_bytes` meets its contract.
+-- `text::put::write_bytes` meets its contract.
 -- The loop keeps `Copying`, that the bytes left give what all give; the measure is their number.
 use Prim.Native.Nat.{_-_}
 use borrow.Author.Needs.{needs}
 use lib.ListN.{length}
-use Rattle.report.proofs.Copies.{Copying, copy-start, copy-more, copy-done}
-use Rattle.report.proofs.put.write_bytes.Statement.{statement}
-use Rattle.report.proofs.put.write_bytes.Tie as tie
+use Rattle.text.proofs.Copies.{Copying, copy-start, copy-more, copy-done}
+use Rattle.text.proofs.put.write_bytes.Statement.{statement}
+use Rattle.text.proofs.put.write_bytes.Tie as tie
 
 abbrev Inv-loop : tie.InvT-loop
 Inv-loop text₀ at bytes i₀ text i = Copying text₀ at bytes text i

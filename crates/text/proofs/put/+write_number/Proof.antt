@@ -1,16 +1,16 @@
--- `report::put::write_number` meets its contract.
+-- `text::put::write_number` meets its contract.
 -- One digit is a number below ten, and the last digit after the tenth is the number; the measure is the number, since its tenth is smaller.
 use borrow.Author.Needs.{needs}
-use Rattle.report.proofs.Numbers.{number-one, one-room, tenth-room, last-room, number-more}
+use Rattle.text.proofs.Numbers.{number-one, one-room, tenth-room, last-room, number-more}
 use Prim.Native.Nat.{ℕ, _<_}
 use native.Mathlib.Omega.{arith}
 use borrow.Fn.Kinds.{In}
 use borrow.Fn.PlainCycle.{Measures, is, falls, and}
-use Rattle.report.proofs.put.write_number.Reads as write-number
-use Rattle.report.proofs.put.write_number.Kinds as write-number-kinds
-use Rattle.report.proofs.put.+write_number.Lts-write_number as write-number-lts
-use Rattle.report.proofs.put.+write_number.{statement}
-use Rattle.report.proofs.put.+write_number.Tie.{close}
+use Rattle.text.proofs.put.write_number.Reads as write-number
+use Rattle.text.proofs.put.write_number.Kinds as write-number-kinds
+use Rattle.text.proofs.put.+write_number.Lts-write_number as write-number-lts
+use Rattle.text.proofs.put.+write_number.{statement}
+use Rattle.text.proofs.put.+write_number.Tie.{close}
 
 abbrev μ-write-number : Measures 1 write-number-kinds.ps ℕ
 μ-write-number κs a = a .1 .1 .0
@@ -91,7 +91,7 @@ write-number-add-result-2 : (t : ℕ) → write-number-lts.Need-add-result-2 (
   write-number-below t,
   write-number.Post,
 ) (write-number-at t) write-number.Post
-write-number-add-result-2 t c = search needs
+write-number-add-result-2 t c = omega (arith, write-number-slice-write-text-2 t c)
 
 write-number-same-length-2 : (t : ℕ) → write-number-lts.Need-same-length-2 (
   write-number-below t,

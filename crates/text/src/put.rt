@@ -1,13 +1,15 @@
-// Bytes and numbers written into a buffer at a place. Each function answers the place after what it wrote.
+// Bytes and numbers written into a buffer at a place. Each function asks room for the very bytes that it writes, and
+// answers the place after them.
 ghost use Prim.Native.Nat.{_+_, _≤_};
 ghost use lib.ListN.{length};
-ghost use Rattle.report.specs.Text.{decimal, field, named};
-ghost use Rattle.report.specs.Appending.{Appended};
+ghost use Rattle.text.specs.Decimal.{decimal};
+ghost use Rattle.text.specs.Fields.{field, named};
+ghost use Rattle.text.specs.Appending.{Appended};
 
 // Copies bytes.
 pub fn write_bytes(text: &mut [u8], at: usize, bytes: &[u8]) -> usize
     requires { ⌜ at + length (now bytes) ≤ length (now text) ⌝ }
-    ensures { λ r. ⌜ Appended (length (now (bytes .entry))) (now (text .entry)) at (now (bytes .entry)) (now (text .exit)) r ⌝ }
+    ensures { λ r. ⌜ Appended (now (text .entry)) at (now (bytes .entry)) (now (text .exit)) r ⌝ }
 {
     let mut i = 0;
     while i < bytes.len() {
@@ -20,7 +22,7 @@ pub fn write_bytes(text: &mut [u8], at: usize, bytes: &[u8]) -> usize
 // A number in base ten: what comes before its last digit, if anything does, and then that digit.
 pub fn write_number(text: &mut [u8], at: usize, n: u32) -> usize
     requires { ⌜ at + length (decimal n) ≤ length (now text) ⌝ }
-    ensures { λ r. ⌜ Appended 10 (now (text .entry)) at (decimal n) (now (text .exit)) r ⌝ }
+    ensures { λ r. ⌜ Appended (now (text .entry)) at (decimal n) (now (text .exit)) r ⌝ }
 {
     if n < 10 {
         text[at] = b'0' + n as u8;
@@ -33,8 +35,8 @@ pub fn write_number(text: &mut [u8], at: usize, n: u32) -> usize
 
 // A number and the byte that ends it.
 pub fn write_field(text: &mut [u8], at: usize, n: u32, end: u8) -> usize
-    requires { ⌜ at + 11 ≤ length (now text) ⌝ }
-    ensures { λ r. ⌜ Appended 11 (now (text .entry)) at (field n end) (now (text .exit)) r ⌝ }
+    requires { ⌜ at + length (field n end) ≤ length (now text) ⌝ }
+    ensures { λ r. ⌜ Appended (now (text .entry)) at (field n end) (now (text .exit)) r ⌝ }
 {
     let last = write_number(text, at, n);
     text[last] = end;
@@ -43,8 +45,8 @@ pub fn write_field(text: &mut [u8], at: usize, n: u32, end: u8) -> usize
 
 // Words, and then a number with the byte that ends it.
 pub fn write_named(text: &mut [u8], at: usize, words: &[u8], n: u32, end: u8) -> usize
-    requires { ⌜ at + (length (now words) + 11) ≤ length (now text) ⌝ }
-    ensures { λ r. ⌜ Appended (length (now (words .entry)) + 11) (now (text .entry)) at (named (now (words .entry)) n end) (now (text .exit)) r ⌝ }
+    requires { ⌜ at + length (named (now words) n end) ≤ length (now text) ⌝ }
+    ensures { λ r. ⌜ Appended (now (text .entry)) at (named (now (words .entry)) n end) (now (text .exit)) r ⌝ }
 {
     let next = write_bytes(text, at, words);
     write_field(text, next, n, end)

@@ -6,7 +6,7 @@ use Prim.Native.Nat.{ℕ, suc, _+_, _≤_, _<_}
 use native.Mathlib.Omega.{arith}
 use lib.ListN.{length, getD, set, drop, length-set, drop-of-length-le}
 use lib.Seq.{sets, drop-cons}
-use Rattle.report.specs.Appending.{Appended}
+use Rattle.text.specs.Appending.{Appended}
 
 pub record Copying (old : List ℕ) (at : ℕ) (bytes text : List ℕ) (i : ℕ) : Type 0 where
   pub within : i ≤ length bytes
@@ -33,11 +33,10 @@ copy-more old at bytes text i s more =
     one : i + 1 ≡ suc i
     one = omega arith
 
-pub copy-done : (old : List ℕ) (at : ℕ) (bytes text : List ℕ) (i : ℕ) → Copying old at bytes text i → length bytes ≤ i → Appended (length bytes) old at bytes text (at + i)
+pub copy-done : (old : List ℕ) (at : ℕ) (bytes text : List ℕ) (i : ℕ) → Copying old at bytes text i → length bytes ≤ i → Appended old at bytes text (at + i)
 copy-done old at bytes text i s end =
     let within = s .within in
     record {
-      few = omega arith;
       place = omega arith;
       text = ap (λ (l : List ℕ). sets text (at + i) l) (sym (drop-of-length-le bytes end)) ∙ s .rest;
     }

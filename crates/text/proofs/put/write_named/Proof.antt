@@ -1,15 +1,15 @@
--- `report::put::write_named` meets its contract.
+-- `text::put::write_named` meets its contract.
 -- The words and then the field are appended together, by `named-field`.
 use borrow.Author.Needs.{needs}
-use Rattle.report.proofs.Numbers.{named-field}
-use Rattle.report.proofs.put.write_named.Statement.{statement}
-use Rattle.report.proofs.put.write_named.Tie as tie
+use Rattle.text.proofs.Numbers.{words-room, field-room, named-field}
+use Rattle.text.proofs.put.write_named.Statement.{statement}
+use Rattle.text.proofs.put.write_named.Tie as tie
 
 write-bytes-requires : tie.Need-write-bytes-requires
-write-bytes-requires c κs = search needs
+write-bytes-requires c κs = search (needs, words-room)
 
 write-field-requires : tie.Need-write-field-requires
-write-field-requires c κs = search needs
+write-field-requires c κs = search (needs, field-room)
 
 same-length : tie.Need-same-length
 same-length c = search needs

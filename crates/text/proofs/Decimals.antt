@@ -1,14 +1,21 @@
--- A number below ten is one digit, any other is the digits of its tenth and then its last; a number below 2^32 has at most ten digits.
+-- A number below ten is one digit, any other is the digits of its tenth and then its last.
 -- The count of divisions that the definition carries does not matter from the number on, since a tenth of a number is smaller.
 use mathlib.Core.Path.{_≡_, refl, sym, ap, _∙_}
+use mathlib.Core.Bool.{Bool, true, false}
 use mathlib.Core.List.{List, [], _∷_, _++_}
-use Prim.Native.Nat.{ℕ, zero, suc, _+_, _/_, _%_, _^_, _≤_, _<_}
-use native.Mathlib.Nat.{pow-suc}
+use Prim.Native.Nat.{ℕ, zero, suc, _+_, _/_, _%_, _≤_, _<_}
 use native.Mathlib.Omega.{arith}
-use lib.ListN.{length, length-append}
-use borrow.Author.Tests.{lt-ltb, le-ltb}
-use Rattle.arena.proofs.Cases.{lt-or-ge}
-use Rattle.report.specs.Text.{digit, decimalBy, decimal}
+use lib.Dec.{ltb}
+use borrow.Author.Tests.{ltb-true, ltb-false, lt-ltb, le-ltb}
+use Rattle.text.specs.Decimal.{digit, decimalBy, decimal}
+
+-- A proof by the two rules. The cases are functions, so that a proof that goes by them may call itself in each.
+pub small-or-large : {C : Type 0} (n : ℕ) → (n < 10 → C) → (10 ≤ n → C) → C
+small-or-large {C} n small large = by (ltb n 10) refl
+  where
+    by : (t : Bool) → ltb n 10 ≡ t → C
+    by true e = small (ltb-true n 10 e)
+    by false e = large (ltb-false n 10 e)
 
 by-small : (k n : ℕ) → n < 10 → decimalBy k n ≡ digit n ∷ []
 unfolding decimalBy
@@ -23,7 +30,7 @@ by-same : (j k n : ℕ) → n ≤ j → n ≤ k → decimalBy j n ≡ decimalBy 
 by-same zero k n u v = by-small zero n (omega arith) ∙ sym (by-small k n (omega arith))
 by-same (suc j) zero n u v = by-small (suc j) n (omega arith) ∙ sym (by-small zero n (omega arith))
 by-same (suc j) (suc k) n u v =
-    lt-or-ge n 10
+    small-or-large n
     (λ low. by-small (suc j) n low ∙ sym (by-small (suc k) n low))
     (λ high. by-large j n high
     ∙ ap (λ (l : List ℕ). l ++ (digit (n % 10) ∷ [])) (by-same j k (n / 10) (omega arith) (omega arith))
@@ -39,24 +46,3 @@ decimal-large zero high = absurd (omega arith)
 decimal-large (suc k) high =
     by-large k (suc k) high
     ∙ ap (λ (l : List ℕ). l ++ (digit (suc k % 10) ∷ [])) (by-same k (suc k / 10) (suc k / 10) (omega arith) (omega arith))
-
--- The digits of the tenth, and one more.
-pub decimal-longer : (n : ℕ) → 10 ≤ n → length (decimal n) ≡ length (decimal (n / 10)) + 1
-decimal-longer n high = ap length (decimal-large n high) ∙ length-append (decimal (n / 10)) (digit (n % 10) ∷ [])
-
--- A number below 10^(k + 1) has at most k + 1 digits.
-digits-few : (k n : ℕ) → n < 10 ^ suc k → length (decimal n) ≤ suc k
-digits-few zero n low =
-    let one = ap length (decimal-small n low) in
-    omega arith
-digits-few (suc k) n low =
-    lt-or-ge n 10
-    (λ one. let e = ap length (decimal-small n one) in omega arith)
-    (λ high.
-    let ten = pow-suc 10 (suc k) in
-    let tenth = digits-few k (n / 10) (omega arith) in
-    let e = decimal-longer n high in
-    omega arith)
-
-pub decimal-few : (n : ℕ) → n < 2 ^ 32 → length (decimal n) ≤ 10
-decimal-few n low = digits-few 9 n (omega arith)
