@@ -5,7 +5,7 @@ ghost use Rattle.slicing.specs.Layout.{outline};
 ghost use Rattle.lent.specs.Questions.{openingGiven, buffersLent, outputLent};
 use checks::limits::OPENING;
 use checks::limits::WORDS;
-use facefile::field::is_within;
+use facefile::is_within;
 
 // Check 16, of an opening.
 pub fn opening_number(height: u32, width: u32) -> u32

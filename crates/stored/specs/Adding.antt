@@ -4,8 +4,7 @@ use Prim.Native.Nat.{ℕ, _+_, _*_, _-_, _≤_, _<_}
 use lib.ListN.{length}
 use Rattle.slicing.specs.Tree.{Tree, gaugeCount}
 use Rattle.slicing.specs.Good.{Good}
-use Rattle.facefile.specs.Kinds.{kindOf}
-use Rattle.facefile.proofs.Took.{Cut}
+use Rattle.facefile.specs.Kinds.{kindOf, Cut}
 use Rattle.stored.specs.Packed.{ownShapes}
 use Rattle.stored.specs.Store.{Entry}
 use Rattle.stored.specs.Filling.{Between}

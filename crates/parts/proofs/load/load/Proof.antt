@@ -1,11 +1,11 @@
--- `arena::load::load` meets its contract.
+-- `parts::load::load` meets its contract.
 -- The loop keeps `Loading`, that the sizes from i on are the list of the head; the measure is i.
 use borrow.Author.Needs.{needs}
 use Prim.Native.Nat.{_-_}
 use native.Mathlib.Omega.{arith}
-use Rattle.arena.proofs.Loads.{Loading, loading-start, loading-low, loading-high, loading-more, loading-done}
-use Rattle.arena.proofs.load.load.Statement.{statement}
-use Rattle.arena.proofs.load.load.Tie as tie
+use Rattle.parts.proofs.Loads.{Loading, loading-start, loading-low, loading-high, loading-more, loading-done}
+use Rattle.parts.proofs.load.load.Statement.{statement}
+use Rattle.parts.proofs.load.load.Tie as tie
 
 abbrev Inv-loop : tie.InvT-loop
 Inv-loop arena₀ head first sizes levels last₀ i₀ arena last i = Loading arena₀ head first sizes levels arena last i
@@ -28,27 +28,15 @@ shared-slice-read-word-of c = search needs
 word-of-requires : tie.Need-word-of-requires Inv-loop μ-loop
 word-of-requires c κs = search needs
 
-mul-field : tie.Need-mul-field Inv-loop μ-loop
-mul-field c = search needs
-
-field-requires : tie.Need-field-requires Inv-loop μ-loop
-field-requires c κs = search needs
-
-mul-field-2 : tie.Need-mul-field-2 Inv-loop μ-loop
-mul-field-2 c = search needs
-
-add-field : tie.Need-add-field Inv-loop μ-loop
-add-field c = search needs
-
-field-requires-2 : tie.Need-field-requires-2 Inv-loop μ-loop
-field-requires-2 c κs = search needs
+size-in-requires : tie.Need-size-in-requires Inv-loop μ-loop
+size-in-requires c κs = (_, c .before .before .before .loop .inv .can .bytes, search needs)
 
 add-r : tie.Need-add-r Inv-loop μ-loop
 add-r c = search needs
 
 load-record-requires : tie.Need-load-record-requires Inv-loop μ-loop
 load-record-requires c κs =
-    let at-word-of = c .before .before .before in
+    let at-word-of = c .before .before in
     let at-loop = at-word-of .before .before .before in
     let can = at-loop .loop .inv .can in
     let low = loading-low _ _ _ _ _ _ _ can (omega arith) (at-word-of .word-of .ensures .0) in
@@ -63,13 +51,7 @@ loop-less : tie.Need-loop-less Inv-loop μ-loop
 loop-less c = search needs
 
 loop-again : tie.Need-loop-again Inv-loop μ-loop
-loop-again c =
-    let at-field2 = c .before .before .before .before in
-    let at-field = at-field2 .before in
-    let at-word-of = at-field .before in
-    let at-loop-test = at-word-of .before .before in
-    let at-loop = at-loop-test .before in
-    loading-more _ _ _ _ _ _ _ _ (at-loop .loop .inv) (at-loop-test .loop-test .taken) _ _ _ _ (at-word-of .word-of .ensures .0) (at-field .field .ensures .0) (at-field2 .field2 .ensures .0) (at-field2 .field2 .ensures .1) (c .before .before .load-record .ensures)
+loop-again c = search (needs, loading-more)
 
 store-requires : tie.Need-store-requires Inv-loop μ-loop
 store-requires c κs = search needs
@@ -91,11 +73,7 @@ load-spec =
     sub-k
     shared-slice-read-word-of
     word-of-requires
-    mul-field
-    field-requires
-    mul-field-2
-    add-field
-    field-requires-2
+    size-in-requires
     add-r
     load-record-requires
     cast-last

@@ -4,10 +4,10 @@ use mathlib.Core.List.{List, [], _∷_, map}
 use Prim.Native.Nat.{ℕ, zero, suc, _+_, _*_, _≤_, _<_}
 use lib.ListN.{length, getD}
 use Rattle.slicing.specs.Item.{Item}
-use Rattle.facefile.specs.Sizes.{sizesIn}
+use Rattle.facefile.specs.Sizes.{sizesIn, Sized}
 use Rattle.arena.specs.Arena.{stride, level, mWord}
 use Rattle.arena.specs.Chain.{Has, put, Away, trues, Same}
 use Rattle.arena.specs.Building.{Hooked, Built}
 
 -- The n numbers from r on.
 unfoldable pub numbers : ℕ → ℕ → List ℕ
@@ -22,7 +22,7 @@ written a r l m p = put (put (put a r 0 l) r 1 m) r 2 p
 abbrev pub Placed : List ℕ → ℕ → ℕ → ℕ → ℕ → ℕ → ℕ → List ℕ → Type 0
 Placed a h r last l m p b = Hooked 1 l (put (written a r l m p) r 3 last) h r b
 
--- The arena has the head and a record for each level, and there are four bytes for each.
+-- The arena has the head and a record for each level, and there are as many sizes.
 pub record Loadable (a : List ℕ) (head first : ℕ) (sizes levels : List ℕ) : Type 0 where
   pub head-has : Has a head
   pub some : 1 ≤ first
@@ -31,7 +31,7 @@ pub record Loadable (a : List ℕ) (head first : ℕ) (sizes levels : List ℕ) 
   pub apart : (i : ℕ) → i < length levels → first + i ≡ head → ⊥
   pub low : (i : ℕ) → i < length levels → 1 ≤ getD levels i 0
   pub high : (i : ℕ) → i < length levels → getD levels i 0 ≤ 8
-  pub bytes : length sizes ≡ 4 * length levels
+  pub bytes : Sized (length levels) sizes
 
 -- The arena b is a with the sizes as the list of the head, in the records from `first` on.
 pub record Loaded (a : List ℕ) (head first : ℕ) (sizes levels b : List ℕ) : Type 0 where

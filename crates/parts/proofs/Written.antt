@@ -5,14 +5,14 @@ use mathlib.Core.List.{List, _∷_}
 use Prim.Native.Nat.{ℕ, _%_, _^_, _≤_, _<_}
 use native.Mathlib.Omega.{arith}
 use lib.ListN.{length}
 use Rattle.arena.specs.Arena.{word, level, mWord, pWord}
 use Rattle.arena.specs.Chain.{Has, put, All, Away, trues, Same}
 use Rattle.arena.specs.Building.{Hooked, Built, Fresh, Prepended}
-use Rattle.arena.specs.Loading.{written, Placed}
+use Rattle.parts.specs.Loading.{written, Placed}
 use Rattle.arena.proofs.PutLaws.{length-put, word-same, word-other-record, word-other-field, put-swap, same-trans}
 use Rattle.arena.proofs.Frames.{all-map, same-value, built-frame, trues-frame}
 use Rattle.arena.proofs.HookLaws.{hooked-all}
 use Rattle.arena.proofs.PrependLaws.{prepended}
 
 module _ (a : List ℕ) (r l m p : ℕ) where
   written-long : length (written a r l m p) ≡ length a

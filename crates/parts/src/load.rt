@@ -1,12 +1,12 @@
 // A list made of a gauge's sizes.
 ghost use mathlib.Core.Path.{_≡_};
 ghost use Prim.Native.Nat.{_≤_, _<_};
 ghost use Rattle.arena.specs.Building.{Hookable};
-ghost use Rattle.arena.specs.Loading.{Placed, Loadable, Loaded};
-use crate::empty::clear_head;
-use crate::prepend::prepend;
-use crate::words::store;
-use facefile::field::field;
+ghost use Rattle.parts.specs.Loading.{Placed, Loadable, Loaded};
+use arena::empty::clear_head;
+use arena::prepend::prepend;
+use arena::words::store;
+use facefile::size_in;
 
 // A byte as a word.
 fn word_of(x: u8) -> u32
@@ -39,10 +39,9 @@ pub fn load(arena: &mut [u32], head: usize, first: usize, sizes: &[u8], levels: 
     while 0 < i {
         let k = i - 1;
         let level = word_of(levels[k]);
-        let height = field(sizes, 4 * k);
-        let width = field(sizes, 4 * k + 2);
+        let z = size_in(sizes, k);
         let r = first + k;
-        load_record(arena, head, r, last, level, height, width);
+        load_record(arena, head, r, last, level, z.height, z.width);
         last = r as u32;
         i = k;
     }
