@@ -1,4 +1,3 @@
 pub mod FitLent
 pub mod FaceLaws
 pub mod FitCall
-pub mod Rows
