@@ -1,6 +1,6 @@
 -- The part of the fit call after its checks: the root's list is picked from, and the picked item is laid out.
 -- The stored root is the face, its list read by height is the shape list, and the laws of the pick and of the layout say the rest.
-use mathlib.Core.Path.{_≡_, refl, sym, ap, ap₂, subst, _∙_}
+use mathlib.Core.Path.{_≡_, sym, ap, ap₂, subst, _∙_}
 use mathlib.Core.Bool.{Bool, true, false, not}
 use mathlib.Core.List.{List, _++_}
 use Prim.Native.Nat.{ℕ, _+_, _*_, _/_, _%_, _^_, _<_}
@@ -37,10 +37,6 @@ use Rattle.fit.specs.Facing.{Placeable, PlacedIn}
 
 pub area-fits : (h w : ℕ) → h < 65_536 → w < 65_536 → h * w < 2 ^ 32
 area-fits h w low-h low-w = let area = product-low h w low-h low-w in omega arith
-
-pub found-is : (z count m p : ℕ) → m ≡ z / 65_536 → p ≡ z % 65_536 → _≡_ {A = Fitted} (record { number = 0; height = m; width = p; area = m * p; count = count }) (record { number = 0; height = z / 65_536; width = z % 65_536; area = z / 65_536 * (z % 65_536); count = count })
-found-is z count m p e f =
-    ap₂ (λ (x y : ℕ). record { number = 0; height = x; width = y; area = x * y; count = count }) e f
 
 -- The root of a stored face can be read, and its list picked from.
 module _ {file s z : List ℕ} {root : ℕ} (filled : (t : Tree) → faceOf file ≡ taken t → Filled s z root t) {gauges : ℕ} {old : List ℕ} (p : Placeable file gauges s old) where
@@ -102,20 +98,17 @@ module _ {file s z : List ℕ} {root high wide : ℕ} {a : Stretch} {found : Boo
         let most = face .most in
         omega arith
 
-    pub face-done : {word : ℕ} {output : List ℕ} {r : Fitted} → Word z root at word → ((t : Tree) → Layable z root t gauges at 0 0 old → output ≡ laid t at 0 0 old) → r ≡ record { number = 0; height = word / 65_536; width = word % 65_536; area = word / 65_536 * (word % 65_536); count = a .count } → PlacedIn file (outline high wide) r old output
+    pub face-done : {word m q : ℕ} {output : List ℕ} → Word z root at word → m ≡ word / 65_536 → q ≡ word % 65_536 → ((t : Tree) → Layable z root t gauges at 0 0 old → output ≡ laid t at 0 0 old) → PlacedIn file (outline high wide) (record { number = 0; height = m; width = q; area = m * q; count = a .count }) old output
     unfolding PlacedIn laid writtenOver
-    face-done {word} {output} {r} read lay made t e =
+    face-done {word} {m} {q} read m-read q-read lay t e =
         let v = shapeAt t at in
         let stored = chosen .filled t e .stored in
         let pick : smallest (outline high wide) (shapes 0 t) ≡ picked v = face-picks t e .same ∙ ap (λ (b : Bool). pickAt b (shapes 0 t) at) (not-false found some) in
         let word-is = read t stored (in-list t e) in
         let low = shape-low z root at t stored (in-list t e) in
-        let m : word / 65_536 ≡ height v = m-is v word (word / 65_536) low word-is refl in
-        let q : word % 65_536 ≡ width v = p-is v word (word % 65_536) low word-is refl in
         record {
           answer =
-              made
-              ∙ ap₂ (λ (x y : ℕ). record { number = 0; height = x; width = y; area = x * y; count = a .count }) m q
+              ap₂ (λ (x y : ℕ). record { number = 0; height = x; width = y; area = x * y; count = a .count }) (m-is v word m low word-is m-read) (p-is v word q low word-is q-read)
               ∙ ap (λ (n : ℕ). record { number = 0; height = height v; width = width v; area = height v * width v; count = n }) (count-is t e)
               ∙ ap (faceFound t) (sym pick);
           written =

@@ -1,3 +1,2 @@
 pub mod FaceLaws
 pub mod FitCall
-pub mod Rows

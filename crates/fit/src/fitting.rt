@@ -49,21 +49,6 @@ fn refused(number: u32) -> Fitted
     }
 }
 
-// The answer for a face of an item in one word, and its list's length.
-fn found(z: u32, count: u32) -> Fitted
-    ensures { λ r. ⌜ r ≡ record { number = 0; height = z / 65536; width = z % 65536; area = z / 65536 * (z % 65536); count = count } ⌝ }
-{
-    let height = m_of(z);
-    let width = p_of(z);
-    Fitted {
-        number: checks::TAKEN,
-        height,
-        width,
-        area: height * width,
-        count,
-    }
-}
-
 // The smallest face of a taken file in an opening, its layout in the output. No list is built in an arena. It is for
 // callers that have made the checks of the fit call.
 pub fn place_face(
@@ -85,8 +70,17 @@ pub fn place_face(
     }
     let place = picked.place;
     let z = item_at(scratch, root, place);
+    let high = m_of(z);
+    let wide = p_of(z);
+    let count = list.count as u32;
     lay(scratch, root, gauges, place, 0, 0, output);
-    found(z, list.count as u32)
+    Fitted {
+        number: checks::TAKEN,
+        height: high,
+        width: wide,
+        area: high * wide,
+        count,
+    }
 }
 
 // Checks 1 to 18, then the smallest face inside the opening, its layout in the output and its list in the arena; 19 where

@@ -1,7 +1,9 @@
 -- `fit::fitting::place_face` meets its contract.
 -- The stored root's list is the face's, and each call is ready for the next.
+use native.Mathlib.Omega.{arith}
 use borrow.Author.Needs.{needs}
-use Rattle.fit.proofs.FaceLaws.{root-ready, root-list, Chosen, face-none, face-place, face-lays, face-counts, face-done}
+use Rattle.picking.proofs.Looking.{halves-low}
+use Rattle.fit.proofs.FaceLaws.{area-fits, root-ready, root-list, Chosen, face-none, face-place, face-lays, face-counts, face-done}
 use Rattle.fit.proofs.fitting.place_face.Statement.{statement}
 use Rattle.fit.proofs.fitting.place_face.Tie as tie
 
@@ -18,11 +20,11 @@ at-stretch c = c .before .before
 abbrev at-pick : tie.Else1 → tie.After-pick
 at-pick c = c .before .before
 
-abbrev at-found : tie.After-item-at → tie.Else1
-at-found c = c .before .before
+abbrev at-found : tie.After-p-of → tie.Else1
+at-found c = c .before .before .before .before
 
-abbrev at-item : tie.After-lay → tie.After-item-at
-at-item c = c .before .before .before
+abbrev at-width : tie.After-lay → tie.After-p-of
+at-width c = c .before .before .before .before
 
 module _ (c : tie.After-pick) where
   abbrev stored : tie.After-store-lists
@@ -57,18 +59,29 @@ returns c = face-none (chosen (c .before .before .before)) (c .before .if1 .take
 item-at-requires : tie.Need-item-at-requires
 item-at-requires c κs = face-place (chosen (at-pick (c .before))) (c .before .if1 .left) (entry (at-pick (c .before)) .pre)
 
-lay-requires : tie.Need-lay-requires
-lay-requires c κs =
-    let found = at-found (c .before .before) in
-    face-lays (chosen (at-pick found)) (found .if1 .left) (entry (at-pick found) .pre)
+m-of-requires : tie.Need-m-of-requires
+m-of-requires c κs = search needs
 
-cast-found : tie.Need-cast-found
-cast-found c =
-    let found = at-found (at-item (c .before .before .before)) in
+p-of-requires : tie.Need-p-of-requires
+p-of-requires c κs = search needs
+
+cast-count : tie.Need-cast-count
+cast-count c =
+    let found = at-found (c .before) in
     record { fits = face-counts (chosen (at-pick found)) (found .if1 .left) (entry (at-pick found) .pre) }
 
-found-requires : tie.Need-found-requires
-found-requires c κs = search needs
+lay-requires : tie.Need-lay-requires
+lay-requires c κs =
+    let found = at-found (c .before .before .before) in
+    face-lays (chosen (at-pick found)) (found .if1 .left) (entry (at-pick found) .pre)
+
+mul-t29 : tie.Need-mul-t29
+mul-t29 c =
+    let at = at-width (c .before .before) in
+    let low = halves-low _ _ _ (search needs) (at .before .m-of .ensures) (at .p-of .ensures) in
+    let high = low .0 in
+    let wide = low .1 in
+    record { fits = area-fits _ _ (omega arith) (omega arith) }
 
 same-length-2 : tie.Need-same-length-2
 same-length-2 c = search needs
@@ -78,9 +91,10 @@ same-length-3 c = search needs
 
 returns-2 : tie.Need-returns-2
 returns-2 c =
-    let at-lay = c .before .before .before .before in
-    let found = at-found (at-item at-lay) in
-    face-done (chosen (at-pick found)) (found .if1 .left) (entry (at-pick found) .pre) (at-item at-lay .item-at .ensures) (at-lay .lay .ensures) (c .found .ensures)
+    let at-lay = c .before .before in
+    let at = at-width at-lay in
+    let found = at-found at in
+    face-done (chosen (at-pick found)) (found .if1 .left) (entry (at-pick found) .pre) (at .before .before .item-at .ensures) (at .before .m-of .ensures) (at .p-of .ensures) (at-lay .lay .ensures)
 
 pub place-face-spec : {M : Type 1} → statement M
 place-face-spec =
@@ -93,9 +107,11 @@ place-face-spec =
     same-length
     returns
     item-at-requires
+    m-of-requires
+    p-of-requires
+    cast-count
     lay-requires
-    cast-found
-    found-requires
+    mul-t29
     same-length-2
     same-length-3
     returns-2)

@@ -1,6 +1,7 @@
 -- `laying::lay::lay` meets its contract.
 -- The measure is the number of gauges, which each part has fewer of. A gauge's words are written at once; at a join each part takes its item and lays itself out, the newer in the stretch after the older's words.
 use Prim.Native.Nat.{ℕ, _<_}
+use native.Mathlib.Omega.{arith}
 use lib.Dec.{eqb}
 use lib.ListN.{length}
 use borrow.Author.Needs.{needs}
@@ -60,7 +61,9 @@ module _ (t : ℕ) where
   write-gauge-requires : lay-lts.Need-write-gauge-requires calls asked lay.Post
   write-gauge-requires c κs =
       let at-kind = c .before .before .before in
-      gauge-room (at-kind .part-word .ensures) (c .before .if1 .taken) (at-kind .before .before .before .pre .1)
+      let room = gauge-room (at-kind .part-word .ensures) (c .before .if1 .taken) (at-kind .before .before .before .pre .1) in
+      let long = room .0 in
+      let low = room .1 in (omega arith, omega arith)
 
   same-length : lay-lts.Need-same-length calls asked lay.Post
   same-length c = search needs
