@@ -57,6 +57,10 @@ module _ {A : Type 0} where
   RefusedBy P (refused c) = P c
   RefusedBy P (taken x) = Unit {0}
 
+  pub refused-weaker : (P Q : Check → Type 0) → ((c : Check) → P c → Q c) → (a : Answer A) → RefusedBy P a → RefusedBy Q a
+  refused-weaker P Q weaker (refused c) h = weaker c h
+  refused-weaker P Q weaker (taken x) h = tt
+
   pub ask-refused : (P : Check → Type 0) (b : Bool) (c : Check) (a : Answer A) → P c → RefusedBy P a → RefusedBy P (ask b c a)
   ask-refused P true c a h k = k
   ask-refused P false c a h k = h

@@ -1,15 +1,13 @@
 -- Every refusal of a file is by a check of the file.
 -- The definition of a face asks no other question.
-use mathlib.Core.Path.{_≡_, subst}
 use mathlib.Core.Bool.{Bool, true, false, cond}
 use mathlib.Core.List.{List, [], _∷_}
-use Prim.Native.Nat.{ℕ, zero, suc, _*_, _≤_}
-use native.Mathlib.Omega.{arith}
+use Prim.Native.Nat.{ℕ, zero, suc, _*_}
 use lib.ListN.{length, getD, drop}
 use lib.Dec.{leb, ltb, eqb}
-use Rattle.checks.specs.Check.{Check, Limits, Order, Present, Gauges, SizeCount, AtEnd, Length, Mark, Version, Entries, numberOf}
-use Rattle.checks.specs.Answer.{Answer, refused, ask}
-use Rattle.checks.proofs.Answers.{number-positive, RefusedBy, ask-refused, next-refused}
+use Rattle.checks.specs.Check.{Check, Limits, Order, Present, Gauges, SizeCount, AtEnd, Length, Mark, Version, Entries}
+use Rattle.checks.specs.Answer.{Answer, ask}
+use Rattle.checks.proofs.Answers.{RefusedBy, ask-refused, next-refused}
 use Rattle.checks.proofs.FileChecks.{FileCheck, of-length, of-mark, of-version, of-entries, of-present, of-kind, of-size-count, of-limits, of-order, of-gauges, of-join, of-one-part, of-at-end}
 use Rattle.slicing.specs.Item.{Item}
 use Rattle.slicing.specs.Tree.{Tree, beside, stacked}
@@ -88,30 +86,8 @@ header-by s =
     (asks (eqb (field s 3) 1) Version _ of-version
     (asks (within 1 127 (field s 5)) Entries _ of-entries tt)))
 
-face-by : (s : List ℕ) → ByFile (faceOf s)
+pub face-refused : (s : List ℕ) → RefusedBy FileCheck (faceOf s)
 unfolding faceOf atEnd
-face-by s =
+face-refused s =
     next-refused FileCheck (header s) _ (header-by s)
     (λ count. next-refused FileCheck (entries count (start s)) atEnd (entries-by count (start s)) (λ e. end-by (e .stack) (e .rest)))
-
-pub refused-by-file : (s : List ℕ) (c : Check) → faceOf s ≡ refused c → FileCheck c
-refused-by-file s c e = subst (λ (a : Answer Tree). ByFile a) e (face-by s)
-
-file-number : (c : Check) → FileCheck c → numberOf c ≤ 13
-file-number c of-length = omega arith
-file-number c of-mark = omega arith
-file-number c of-version = omega arith
-file-number c of-entries = omega arith
-file-number c of-present = omega arith
-file-number c of-kind = omega arith
-file-number c of-size-count = omega arith
-file-number c of-limits = omega arith
-file-number c of-order = omega arith
-file-number c of-gauges = omega arith
-file-number c of-join = omega arith
-file-number c of-one-part = omega arith
-file-number c of-at-end = omega arith
-
--- So it has a number from 1 to 13.
-pub face-refused : (s : List ℕ) (c : Check) → faceOf s ≡ refused c → (1 ≤ numberOf c) × (numberOf c ≤ 13)
-face-refused s c e = (number-positive c, file-number c (refused-by-file s c e))

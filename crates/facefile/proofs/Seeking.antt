@@ -12,7 +12,7 @@ use Rattle.facefile.specs.declared.walk.GaugeEntry.{GaugeEntry}
 use Rattle.facefile.specs.declared.walk.Entry.{Entry}
 use Rattle.facefile.specs.declared.walk.Entry.the-variants.{Gauge, Join}
 use Rattle.facefile.specs.Format.{faceOf}
-use Rattle.facefile.specs.Gauge.{sizeBytes, gaugeNumbered, gaugeIn, gaugeBytes}
+use Rattle.facefile.specs.Gauge.{sizeBytes, gaugeNumbered, gaugeBytes}
 use Rattle.facefile.specs.Tracking.{flat}
 use Rattle.facefile.specs.Sizes.{sizesIn}
 use Rattle.facefile.specs.Finding.{Found}
@@ -47,9 +47,9 @@ numbered-past [] (suc k) h = refl
 numbered-past (z ∷ l) (suc zero) h = absurd (omega arith)
 numbered-past (z ∷ l) (suc (suc k)) h = numbered-past l (suc k) (omega arith)
 
-of-face : (file : List ℕ) (t : Tree) (sought : ℕ) → faceOf file ≡ taken t → gaugeBytes file sought ≡ sizeBytes (gaugeNumbered (gaugesOf t) sought)
+of-face : (file : List ℕ) (t : Tree) (sought : ℕ) → faceOf file ≡ taken t → gaugeBytes (faceOf file) sought ≡ sizeBytes (gaugeNumbered (gaugesOf t) sought)
 unfolding gaugeBytes
-of-face file t sought e = ap (λ (a : Answer Tree). gaugeIn a sought) e
+of-face file t sought e = ap (λ (a : Answer Tree). gaugeBytes a sought) e
 
 module _ (file : List ℕ) (sought at left : ℕ) (k : Seeking file sought at left) where
   module _ (r : Entry) (found : Finds file at r) where

@@ -42,7 +42,7 @@ fn find_sizes(file: &[u8], gauge: u32) -> Stretch
 // The heights and widths of a gauge, counted from 1, four bytes a size; nothing where the file is refused or has no
 // such gauge.
 pub fn gauge_bytes(file: &[u8], gauge: u32) -> &[u8]
-    ensures { λ r. ⌜ now r ≡ gaugeBytes (now (file .entry)) gauge ⌝ }
+    ensures { λ r. ⌜ now r ≡ gaugeBytes (faceOf (now (file .entry))) gauge ⌝ }
 {
     let face = read(file);
     if face.number != checks::TAKEN {

@@ -7,7 +7,8 @@ use native.Mathlib.Omega.{arith}
 use lib.ListN.{length}
 use Rattle.checks.specs.Check.{Check, Fits, numberOf}
 use Rattle.checks.specs.Answer.{Answer, refused, taken, Asked, also, number}
-use Rattle.checks.proofs.Answers.{number-positive, not-both, same-taken, also-taken, RefusedBy, also-refused}
+use Rattle.checks.proofs.Answers.{number-positive, not-both, same-taken, also-taken, RefusedBy, refused-weaker, also-refused}
+use Rattle.checks.proofs.FileChecks.{FileCheck, file-not-fits}
 use Rattle.slicing.specs.Item.{height, width}
 use Rattle.slicing.specs.Tree.{Tree, gaugeCount, sizeCount}
 use Rattle.slicing.specs.Shapes.{shapes}
@@ -92,10 +93,6 @@ asks-refused n g levels h w arena scratch output =
     (also-refused NotFits (buffersLent arena scratch) _ (buffers-refused NotFits arena scratch (λ e. omega arith))
     (output-refused NotFits (5 * g) output (λ e. omega arith))))
 
-file-refused : (file : List ℕ) (a : Answer Tree) → faceOf file ≡ a → RefusedBy NotFits a
-file-refused file (refused c) e = λ same. let small = face-refused file c e .1 in omega arith
-file-refused file (taken t) e = tt
-
 -- What was asked of a face of n sizes and g gauges, where all was answered "yes".
 module _ (n g : ℕ) (levels : List ℕ) (h w arena scratch output : ℕ) where
   pub record Lended : Type 0 where
@@ -138,7 +135,7 @@ module _ (file levels : List ℕ) (h w : ℕ) (arena scratch output : List ℕ) 
   before-fits : RefusedBy NotFits answer
   unfolding fitChecks
   before-fits =
-      call-refused (faceOf file) asks NotFits (file-refused file (faceOf file) refl)
+      call-refused (faceOf file) asks NotFits (refused-weaker FileCheck NotFits file-not-fits (faceOf file) (face-refused file))
       (λ t. asks-refused (sizeCount t) (gaugeCount t) levels h w (length arena) (length scratch) (length output))
 
   refused-all : (n : ℕ) → (c : Check) × (answer ≡ refused c) × (n ≡ numberOf c) → (r : Fitted) → r ≡ noFace n → FitLeaves answer levels o old r old
