@@ -17,10 +17,10 @@ use Rattle.arena.specs.Carried.{carried}
 use Rattle.arena.proofs.CarriedLaws.{carried-same}
 
 -- The sums behind the head h and the records before.
-abbrev sums : List ℕ → ℕ → List ℕ → ℕ → ℕ
-sums a h before k = adjust a (lastWith a k h before) k
+abbrev pub passedSums : List ℕ → ℕ → List ℕ → ℕ → ℕ
+passedSums a h before k = adjust a (lastWith a k h before) k
 
-sums-on : (a : List ℕ) (h : ℕ) (before : List ℕ) (r k : ℕ) → sums a h (before ++ (r ∷ [])) k ≡ after a (sums a h before) r k
+pub sums-on : (a : List ℕ) (h : ℕ) (before : List ℕ) (r k : ℕ) → passedSums a h (before ++ (r ∷ [])) k ≡ after a (passedSums a h before) r k
 unfolding after
 sums-on a h before r k =
     ap (λ (x : ℕ). adjust a x k) (last-more a k h before r)
@@ -29,16 +29,16 @@ sums-on a h before r k =
 pub carried-sums : (a : List ℕ) (f g : ℕ → ℕ) (rs : List ℕ) → ((k : ℕ) → k < 8 → g k ≡ f k) → carried a g rs ≡ carried a f rs
 carried-sums a f g rs same = carried-same a a f g rs same (all-refl rs (same-refl a))
 
-true-under : (a : List ℕ) (h : ℕ) (before : List ℕ) (r : ℕ) → trueP a h before r ≡ pUnder a (sums a h before) r
+true-under : (a : List ℕ) (h : ℕ) (before : List ℕ) (r : ℕ) → trueP a h before r ≡ pUnder a (passedSums a h before) r
 unfolding trueP pUnder
 true-under a h before r = refl
 
-held-from : (a : List ℕ) (h : ℕ) (before rs : List ℕ) → held a h before rs ≡ carried a (sums a h before) rs
+held-from : (a : List ℕ) (h : ℕ) (before rs : List ℕ) → held a h before rs ≡ carried a (passedSums a h before) rs
 unfolding held carried trues
 held-from a h before [] = refl
 held-from a h before (r ∷ rs) =
     ap₂ (λ (p : ℕ) (l : List Recorded). record { number = r; item = size (mWord a r) p } ∷ l) (true-under a h before r)
-    (held-from a h (before ++ (r ∷ [])) rs ∙ carried-sums a (after a (sums a h before) r) (sums a h (before ++ (r ∷ []))) rs (λ k few. sums-on a h before r k))
+    (held-from a h (before ++ (r ∷ [])) rs ∙ carried-sums a (after a (passedSums a h before) r) (passedSums a h (before ++ (r ∷ []))) rs (λ k few. sums-on a h before r k))
 
 pub held-carried : (a : List ℕ) (h : ℕ) (rs : List ℕ) → held a h [] rs ≡ carried a (adjust a h) rs
 unfolding lastWith

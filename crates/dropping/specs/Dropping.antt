@@ -3,13 +3,15 @@ use mathlib.Core.Path.{_≡_}
 use mathlib.Core.List.{List, _∷_}
 use Prim.Native.Nat.{ℕ, zero, suc, _+_, _<_}
 use lib.ListN.{length}
-use Rattle.arena.specs.Arena.{word, level, mWord, adjust}
+use Rattle.arena.specs.Arena.{level, mWord, adjust, forwardAt, adjustAt, forward}
 use Rattle.arena.specs.Chain.{Has, put, Linked, trues, after, Same}
 use Rattle.arena.specs.Turning.{Summable, Renewed}
 
 -- Link k of the head h as that of r.
 abbrev pub handed : List ℕ → ℕ → ℕ → ℕ → List ℕ
-handed a h r k = put (put a h (3 + k) (word a r (3 + k))) h (11 + k) (word (put a h (3 + k) (word a r (3 + k))) r (11 + k))
+handed a h r k =
+    let b = put a h (forwardAt + k) (forward a r k) in
+    put b h (adjustAt + k) (adjust b r k)
 
 -- The first n links.
 unfoldable pub handedOver : ℕ → List ℕ → ℕ → ℕ → List ℕ

@@ -17,15 +17,14 @@ use Rattle.arena.proofs.Frames.{all-map, all-refl, all-both, same-value, next-f
 use Rattle.searching.specs.Cut.{front, behind, LinkCount, CutAt}
 use Rattle.searching.proofs.CutLaws.{front-behind, all-front}
 use Rattle.splicing.specs.Open.{Relinkable, Relinked, lastSums, cutSums}
-use Rattle.splicing.proofs.OpenLaws.{ends-frame, open-frame}
-use Rattle.splicing.proofs.ClosingLaws.{ends-has}
+use Rattle.splicing.proofs.OpenLaws.{ends-frame}
 use Rattle.splicing.proofs.RelinkLaws.{relinked-value, relinked-same}
 use Rattle.settling.specs.Cached.{Cached}
 use Rattle.settling.specs.Settled.{Ready, Settled}
 use Rattle.moving.specs.Advance.{Movable, Moved}
 
 -- The list as it is cut.
-module _ (a : List ℕ) (h hc key : ℕ) (cs : List ℕ) (r : ℕ) (rs cutc : List ℕ) (w : Movable a h hc key cs r rs cutc) where
+module _ (a : List ℕ) (h hc key : ℕ) (cs : List ℕ) (r : ℕ) (rs ends : List ℕ) (w : Movable a h hc key cs r rs ends) where
   abbrev fr : List ℕ
   fr = front a key (r ∷ rs)
 
@@ -48,7 +47,7 @@ module _ (a : List ℕ) (h hc key : ℕ) (cs : List ℕ) (r : ℕ) (rs cutc : Li
   head-off = all-left (λ x. x ≡ h → ⊥) fr back (linked .away)
 
   module _ (n : ℕ) (l : LinkCount a key (r ∷ rs) n) (cut sums : List ℕ) (c : CutAt a h key n (r ∷ rs) cut sums) where
-    pub can-settle : Ready a h n cut cutc fr back
+    pub can-settle : Ready a h n cut fr back
     can-settle =
         let some = l .some in
         record {
@@ -61,36 +60,26 @@ module _ (a : List ℕ) (h hc key : ℕ) (cs : List ℕ) (r : ℕ) (rs cutc : Li
           cut-in = λ e.
               last-inside a (n - 1) (λ x. x ≡ h → ⊥) h fr (l .with-link (n - 1) (omega arith)) head-off
               (sym (c .at (n - 1) (omega arith)) ∙ e);
-          ends =
-              record {
-                head-has = linked .has;
-                long = w .ends .long;
-                last-has = ends-has a hc cs cutc (w .result) (w .ends);
-              };
-          apart = λ k e.
-              subst (λ (x : ℕ). Away x fr) (sym (w .ends .at k e))
-              (last-all a k (λ x. Away x fr) hc cs
-              hc-apart cs-apart);
           few = subst (λ (l : List ℕ). length l ≤ 512) whole (w .list .few);
         }
 
     -- After the front was settled, in the arena b.
-    module _ (q : ℕ) (b : List ℕ) (s : Settled a b h q cutc fr) where
+    module _ (q : ℕ) (b : List ℕ) (s : Settled a b h q ends fr) where
       levels : (rs : List ℕ) → All (λ x. level b x ≡ level a x) rs
       levels l = all-refl l (λ x. s .shape x .level-kept)
 
       shapes : (rs : List ℕ) → All (Shape a b) rs
       shapes l = all-refl l (λ x. s .shape x)
 
-      pub can-relink : Relinkable b h hc cs fr back cut sums cutc n
+      pub can-relink : Relinkable b h hc cs fr back cut sums ends n
       can-relink =
           let few = l .few in
           let cut-long = c .long in
           let sums-long = c .sums-long in
           record {
             list = linked-frame a b h (fr ++ back) (s .length-kept) (s .shape h) (shapes (fr ++ back)) linked;
-            result = open-frame a b hc cs (s .length-kept) (s .shape hc) (shapes cs) (w .result);
-            ends = ends-frame a b hc cs cutc (levels cs) (w .ends);
+            result = linked-frame a b hc cs (s .length-kept) (s .shape hc) (shapes cs) (w .result);
+            result-ends = ends-frame a b hc cs ends (levels cs) (w .result-ends);
             heads = w .heads;
             head-away = w .head-away;
             result-away = subst (λ (l : List ℕ). Away hc l) whole (w .result-away);
@@ -106,14 +95,14 @@ module _ (a : List ℕ) (h hc key : ℕ) (cs : List ℕ) (r : ℕ) (rs cutc : Li
           }
 
       -- After it was relinked as well, in the arena d.
-      module _ (d cutd : List ℕ) (e : Relinked b d h hc cs fr back cut sums cutc cutd n) where
-        can : Relinkable b h hc cs fr back cut sums cutc n
+      module _ (d ends' : List ℕ) (e : Relinked b d h hc cs fr back cut sums ends ends' n) where
+        can : Relinkable b h hc cs fr back cut sums ends n
         can = can-relink
 
         value : (x : ℕ) → (x ≡ h → ⊥) → Away x fr → Value a d x
         value x off away =
             let first = same-value a b x (s .outside x away) in
-            let second = relinked-value b d h hc cs fr back cut sums cutc cutd n can e x off in
+            let second = relinked-value b d h hc cs fr back cut sums ends ends' n can e x off in
             record {
               level-kept = second .level-kept ∙ first .level-kept;
               p-kept = second .p-kept ∙ first .p-kept;
@@ -130,16 +119,16 @@ module _ (a : List ℕ) (h hc key : ℕ) (cs : List ℕ) (r : ℕ) (rs cutc : Li
         d-levels xs = all-refl xs (e .level-kept)
 
         -- What leaves the open list is what the front was settled for.
-        leaving-is : (k : ℕ) → k < 8 → leaving d (adjust d hc) cs k ≡ lastSums a cutc k
+        leaving-is : (k : ℕ) → k < 8 → leaving d (adjust d hc) cs k ≡ lastSums a ends k
         leaving-is k f =
             let last = last-frame b d k hc cs (d-levels cs) ∙ last-frame a b k hc cs (levels cs) in
-            leaving-last d k (adjust d hc) hc cs refl ∙ ap (λ (x : ℕ). adjust d x k) (last ∙ sym (w .ends .at k f))
-            ∙ subst (λ (x : ℕ). adjust d x k ≡ adjust a x k) (sym (w .ends .at k f))
+            leaving-last d k (adjust d hc) hc cs refl ∙ ap (λ (x : ℕ). adjust d x k) (last ∙ sym (w .result-ends .at k f))
+            ∙ subst (λ (x : ℕ). adjust d x k ≡ adjust a x k) (sym (w .result-ends .at k f))
             (last-all a k (λ x. adjust d x k ≡ adjust a x k) hc cs (hc-sums k f)
             (all-map cs (λ x v. v .adjust-kept k f) (values-of cs (w .head-away) cs-apart)))
 
         fr-values : All (Value b d) fr
-        fr-values = all-map fr (relinked-value b d h hc cs fr back cut sums cutc cutd n can e) head-off
+        fr-values = all-map fr (relinked-value b d h hc cs fr back cut sums ends ends' n can e) head-off
 
         result-values : trues d (adjust d hc) (cs ++ fr) ≡ trues a (adjust a hc) cs ++ map (λ (t : ℕ). wrap t q) (trues a (adjust a h) fr)
         result-values =
@@ -147,7 +136,7 @@ module _ (a : List ℕ) (h hc key : ℕ) (cs : List ℕ) (r : ℕ) (rs cutc : Li
             ∙ ap (λ (l : List ℕ). l ++ trues d (leaving d (adjust d hc) cs) fr)
             (trues-frame a d (adjust a hc) (adjust d hc) cs hc-sums (values-of cs (w .head-away) cs-apart))
             ∙ ap (λ (l : List ℕ). trues a (adjust a hc) cs ++ l)
-            (trues-frame b d (lastSums a cutc) (leaving d (adjust d hc) cs) fr leaving-is fr-values ∙ s .values)
+            (trues-frame b d (lastSums a ends) (leaving d (adjust d hc) cs) fr leaving-is fr-values ∙ s .values)
 
         -- The head takes what left the front.
         head-is : (k : ℕ) → k < 8 → adjust d h k ≡ leaving a (adjust a h) fr k
@@ -168,22 +157,22 @@ module _ (a : List ℕ) (h hc key : ℕ) (cs : List ℕ) (r : ℕ) (rs cutc : Li
         head-kept : (k : ℕ) → n ≤ k → k < 8 → adjust d h k ≡ adjust a h k
         head-kept k more f = e .adjust-above k more f ∙ s .outside h head-off .at (11 + k) (omega arith)
 
-        ends-kept : (k : ℕ) → n ≤ k → k < 8 → lastSums d cutd k ≡ lastSums a cutc k
+        ends-kept : (k : ℕ) → n ≤ k → k < 8 → lastSums d ends' k ≡ lastSums a ends k
         ends-kept k more f =
             let none : All (λ x. level d x ≤ k) fr = all-map fr (λ x (low : level a x ≤ n). let one = e .level-kept x in let two = s .shape x .level-kept in omega arith) (l .lower) in
             ap (λ (x : ℕ). adjust d x k)
-            (e .ends .at k f ∙ last-append d k hc cs fr ∙ last-none d k (lastWith d k hc cs) fr none)
+            (e .result-ends .at k f ∙ last-append d k hc cs fr ∙ last-none d k (lastWith d k hc cs) fr none)
             ∙ sym (leaving-last d k (adjust d hc) hc cs refl)
             ∙ leaving-is k f
 
-        ends-cut : (k : ℕ) → k < n → k < 8 → lastSums d cutd k ≡ lastSums b cut k
+        ends-cut : (k : ℕ) → k < n → k < 8 → lastSums d ends' k ≡ lastSums b cut k
         ends-cut k less f =
             ap (λ (x : ℕ). adjust d x k) (e .replaced k less)
             ∙ e .adjust-kept (getD cut k 0) k f
             (λ is. last-inside a k (λ x. x ≡ h → ⊥) h fr (l .with-link k less) head-off (sym (c .at k less) ∙ is))
 
         -- So the sums that are kept are right again once those below link n are renewed.
-        pub moved-cached : (heads lasts heads' lasts' : List ℕ) → Cached a h cutc heads lasts → RenewedBelow (cutSums sums) n heads heads' → RenewedBelow (lastSums b cut) n lasts lasts' → Cached d h cutd heads' lasts'
+        pub moved-cached : (heads lasts heads' lasts' : List ℕ) → Cached a h ends heads lasts → RenewedBelow (cutSums sums) n heads heads' → RenewedBelow (lastSums b cut) n lasts lasts' → Cached d h ends' heads' lasts'
         moved-cached heads lasts heads' lasts' k renews-head renews-ends =
             record {
               head =
@@ -193,11 +182,11 @@ module _ (a : List ℕ) (h hc key : ℕ) (cs : List ℕ) (r : ℕ) (rs cutc : Li
                   (λ p. head-kept i p high ∙ sym (renewed-out (cutSums sums) n (adjust a h) i p)))
                   (renews-head (adjust a h) (k .head));
               ends =
-                  suffixes-agree (renewed (lastSums b cut) n (lastSums a cutc)) (lastSums d cutd) lasts'
+                  suffixes-agree (renewed (lastSums b cut) n (lastSums a ends)) (lastSums d ends') lasts'
                   (λ i low high.
-                  lt-or-ge i n (λ p. ends-cut i p high ∙ sym (renewed-in (lastSums b cut) n (lastSums a cutc) i p))
-                  (λ p. ends-kept i p high ∙ sym (renewed-out (lastSums b cut) n (lastSums a cutc) i p)))
-                  (renews-ends (lastSums a cutc) (k .ends));
+                  lt-or-ge i n (λ p. ends-cut i p high ∙ sym (renewed-in (lastSums b cut) n (lastSums a ends) i p))
+                  (λ p. ends-kept i p high ∙ sym (renewed-out (lastSums b cut) n (lastSums a ends) i p)))
+                  (renews-ends (lastSums a ends) (k .ends));
             }
 
         back-values : All (Value a d) back
@@ -205,15 +194,15 @@ module _ (a : List ℕ) (h hc key : ℕ) (cs : List ℕ) (r : ℕ) (rs cutc : Li
 
         outside : (x : ℕ) → (h ≡ x → ⊥) → (hc ≡ x → ⊥) → Away x cs → Away x fr → Same a d x
         outside x off off-result off-cs off-fr =
-            same-trans a b d x (s .outside x off-fr) (relinked-same b d h hc cs fr back cut sums cutc cutd n can e x off off-result off-cs)
+            same-trans a b d x (s .outside x off-fr) (relinked-same b d h hc cs fr back cut sums ends ends' n can e x off off-result off-cs)
 
-        pub moved : Moved a d h hc q cs fr back cutd
+        pub moved : Moved a d h hc q cs fr back ends'
         moved =
             record {
               length-kept = e .length-kept ∙ s .length-kept;
               list = e .list;
               result = e .result;
-              ends = e .ends;
+              result-ends = e .result-ends;
               level-kept = λ x. e .level-kept x ∙ s .shape x .level-kept;
               m-kept = λ x. e .m-kept x ∙ s .shape x .m-kept;
               values = result-values;

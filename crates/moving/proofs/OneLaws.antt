@@ -24,7 +24,7 @@ use Rattle.moving.specs.Advance.{Movable, Moved}
 use Rattle.moving.proofs.Advancing.{can-relink, moved, moved-cached}
 use Rattle.moving.proofs.RunLaws.{raised-one}
 
-module _ (a : List ℕ) (h hc key : ℕ) (cs : List ℕ) (x : ℕ) (rs cutc : List ℕ) (w : Movable a h hc key cs x rs cutc) (stops : passes a (forward a x 0) key ≡ false) where
+module _ (a : List ℕ) (h hc key : ℕ) (cs : List ℕ) (x : ℕ) (rs ends : List ℕ) (w : Movable a h hc key cs x rs ends) (stops : passes a (forward a x 0) key ≡ false) where
   one-has : Has a x
   one-has = w .list .linked .chain .0 .has
 
@@ -53,20 +53,20 @@ module _ (a : List ℕ) (h hc key : ℕ) (cs : List ℕ) (x : ℕ) (rs cutc : Li
       }
 
   -- The arena after the record was raised, and its adjusts as they are read there.
-  module _ (b : List ℕ) (q v : ℕ) (made : MakesUp (headSums a h) (lastSums a cutc) (level a x) q v) (raises : b ≡ put a x 2 (wrap (word a x 2) v)) where
+  module _ (b : List ℕ) (q v : ℕ) (made : MakesUp (headSums a h) (lastSums a ends) (level a x) q v) (raises : b ≡ put a x 2 (wrap (word a x 2) v)) where
     raised : Raised a b 0 v x
     raised = p-raised a v x b one-has raises
 
-    value : pUnder b (lastSums a cutc) x ≡ wrap (pUnder a (headSums a h) x) q
+    value : pUnder b (lastSums a ends) x ≡ wrap (pUnder a (headSums a h) x) q
     unfolding pUnder wrap
     value =
-        ap (λ (l : ℕ). (pWord b x + sumFrom (lastSums a cutc) l 8) % 2 ^ 32) (raised .shape x .level-kept)
-        ∙ raised-one (pWord a x) (pWord b x) (sumFrom (headSums a h) (level a x) 8) (sumFrom (lastSums a cutc) (level a x) 8) v q (raised .p-up) made
+        ap (λ (l : ℕ). (pWord b x + sumFrom (lastSums a ends) l 8) % 2 ^ 32) (raised .shape x .level-kept)
+        ∙ raised-one (pWord a x) (pWord b x) (sumFrom (headSums a h) (level a x) 8) (sumFrom (lastSums a ends) (level a x) 8) v q (raised .p-up) made
 
-    one-settled : Settled a b h q cutc (front a key (x ∷ rs))
+    one-settled : Settled a b h q ends (front a key (x ∷ rs))
     unfolding trues
     one-settled =
-        subst (Settled a b h q cutc) (sym alone)
+        subst (Settled a b h q ends) (sym alone)
         (record {
           length-kept = raised .length-kept;
           shape = raised .shape;

@@ -10,7 +10,7 @@ use borrow.Author.Count.{below-more}
 use lib.ListN.{getD, set, replicate}
 use Rattle.arena.specs.Arena.{word, level, pWord, forward, adjust}
 use Rattle.arena.specs.Lazy.{nextWith, sumFrom}
-use Rattle.arena.specs.Chain.{Has, wrap, All, pUnder, after, trues}
+use Rattle.arena.specs.Chain.{Has, wrap, All, pUnder, after, trues, closed}
 use Rattle.arena.proofs.SumLaws.{sum-agree, add-both}
 use Rattle.arena.proofs.Frames.{all-both, all-refl, chain-low, after-out, next-here}
 use Rattle.arena.proofs.ListLaws.{all-left}
@@ -62,7 +62,7 @@ pub second-passes : (a : List ℕ) (h key x w : ℕ) (more b : Bool) → w ≡ w
 second-passes a h key x w more b w-is x-is passing found =
     ap (λ (y : ℕ). passes a y key) (sym (x-is ∙ w-is)) ∙ sym passing ∙ found
 
-module _ (a : List ℕ) (h hc key : ℕ) (cs : List ℕ) (r : ℕ) (rs cutc : List ℕ) (w : Movable a h hc key cs r rs cutc) where
+module _ (a : List ℕ) (h hc key : ℕ) (cs : List ℕ) (r : ℕ) (rs ends : List ℕ) (w : Movable a h hc key cs r rs ends) where
   abbrev fr : List ℕ
   fr = front a key (r ∷ rs)
 
@@ -80,18 +80,18 @@ module _ (a : List ℕ) (h hc key : ℕ) (cs : List ℕ) (r : ℕ) (rs cutc : Li
     ones : All (λ x. level a x ≡ 1) fr
     ones =
         all-both fr (λ x (p : level a x ≤ 1) (q : 1 ≤ level a x). omega arith) lows
-        (all-left (λ x. 1 ≤ level a x) fr back (chain-low a (fr ++ back) (linked a h hc key cs r rs cutc w .chain)))
+        (all-left (λ x. 1 ≤ level a x) fr back (chain-low closed a (fr ++ back) (linked a h hc key cs r rs ends w .chain)))
 
     -- The walk settles the front, and its last record and head are the cut.
-    module _ (q v : ℕ) (made : MakesUp (headSums a h) (lastSums a cutc) 1 q v) (b : List ℕ) (to : ℕ) (walked : Walked a b h key v (r ∷ rs) to) where
-      settled : Settled a b h q cutc fr
+    module _ (q v : ℕ) (made : MakesUp (headSums a h) (lastSums a ends) 1 q v) (b : List ℕ) (to : ℕ) (walked : Walked a b h key v (r ∷ rs) to) where
+      settled : Settled a b h q ends fr
       settled =
           record {
             length-kept = walked .length-kept;
             shape = walked .shape;
             outside = walked .outside;
             values =
-                low-raised a b (headSums a h) (lastSums a cutc) v q made fr ones
+                low-raised a b (headSums a h) (lastSums a ends) v q made fr ones
                 (all-refl fr (λ x. walked .shape x .level-kept)) (walked .raised);
           }
 
@@ -127,38 +127,38 @@ module _ (a : List ℕ) (h hc key : ℕ) (cs : List ℕ) (r : ℕ) (rs cutc : Li
                 below-more _ 0 (λ k p. absurd (omega arith)) (ap (λ (x : ℕ). adjust a x 0) (walked .last));
           }
 
-      can : Relinkable b h hc cs fr back cut sums cutc 1
-      can = can-relink a h hc key cs r rs cutc w 1 one-link cut sums is-cut q b settled
+      can : Relinkable b h hc cs fr back cut sums ends 1
+      can = can-relink a h hc key cs r rs ends w 1 one-link cut sums is-cut q b settled
 
-      is-ready : Ready b h cut cutc 1
-      is-ready = ready b h hc cs fr back cut sums cutc 1 can
+      is-ready : Ready b h cut ends 1
+      is-ready = ready b h hc cs fr back cut sums ends 1 can
 
-      pub run-has : Has b h × Has b (getD cutc 0 0) × Has b to
+      pub run-has : Has b h × Has b (getD ends 0 0) × Has b to
       run-has = (is-ready .head, is-ready .from 0 (omega arith), is-ready .to 0 (omega arith))
 
-      module _ (s : ℕ) (s-is : s ≡ word b to 11) (c : List ℕ) (relinks : c ≡ relinkOne b h (getD cutc 0 0) to 0 s) where
+      module _ (s : ℕ) (s-is : s ≡ word b to 11) (c : List ℕ) (relinks : c ≡ relinkOne b h (getD ends 0 0) to 0 s) where
         same-sum : s ≡ getD sums 0 0
         same-sum = s-is ∙ walked .adjust-kept to 0 (omega arith)
 
-        rewired : Rewired b c h cut sums cutc 0 1
+        rewired : Rewired b c h cut sums ends 0 1
         rewired =
-            subst (λ (l : List ℕ). Rewired b l h cut sums cutc 0 1)
-            (sym (relinks ∙ ap (relinkOne b h (getD cutc 0 0) to 0) same-sum))
-            (rewired-turn b b h cut sums cutc 0 1 (omega arith) is-ready (rewired-none b h cut sums cutc 1))
+            subst (λ (l : List ℕ). Rewired b l h cut sums ends 0 1)
+            (sym (relinks ∙ ap (relinkOne b h (getD ends 0 0) to 0) same-sum))
+            (rewired-turn b b h cut sums ends 0 1 (omega arith) is-ready (rewired-none b h cut sums ends 1))
 
-        replaced : Replaced cut cutc (set cutc 0 to) 0 1
+        replaced : Replaced cut ends (set ends 0 to) 0 1
         replaced =
-            let long = w .ends .long in
-            replaced-turn cut cutc cutc 0 1 (omega arith) (omega arith) (replaced-none cut cutc 1)
+            let long = w .result-ends .long in
+            replaced-turn cut ends ends 0 1 (omega arith) (omega arith) (replaced-none cut ends 1)
 
-        relinks-all : Relinked b c h hc cs fr back cut sums cutc (set cutc 0 to) 1
-        relinks-all = relinked b h hc cs fr back cut sums cutc 1 can c rewired (set cutc 0 to) replaced
+        relinks-all : Relinked b c h hc cs fr back cut sums ends (set ends 0 to) 1
+        relinks-all = relinked b h hc cs fr back cut sums ends 1 can c rewired (set ends 0 to) replaced
 
-        pub run-moved : Moved a c h hc q cs fr back (set cutc 0 to)
+        pub run-moved : Moved a c h hc q cs fr back (set ends 0 to)
         run-moved =
-            moved a h hc key cs r rs cutc w 1 one-link cut sums is-cut q b settled c (set cutc 0 to) relinks-all
+            moved a h hc key cs r rs ends w 1 one-link cut sums is-cut q b settled c (set ends 0 to) relinks-all
 
-        pub run-cached : (heads lasts : List ℕ) → Cached a h cutc heads lasts → Cached c h (set cutc 0 to) heads lasts
+        pub run-cached : (heads lasts : List ℕ) → Cached a h ends heads lasts → Cached c h (set ends 0 to) heads lasts
         run-cached heads lasts k =
-            moved-cached a h hc key cs r rs cutc w 1 one-link cut sums is-cut q b settled c (set cutc 0 to) relinks-all
+            moved-cached a h hc key cs r rs ends w 1 one-link cut sums is-cut q b settled c (set ends 0 to) relinks-all
             heads lasts heads lasts k (λ f. renew-none (cutSums sums) f heads) (λ f. renew-none (lastSums b cut) f lasts)

@@ -6,26 +6,26 @@ use lib.ListN.{length}
 use Rattle.arena.specs.Arena.{level, mWord, adjust}
 use Rattle.arena.specs.Chain.{wrap, All, Away, Linked, trues, leaving, Same}
 use Rattle.searching.specs.Cut.{front, behind, Searchable}
-use Rattle.splicing.specs.Open.{OpenLinked, CutC}
+use Rattle.splicing.specs.Open.{OpenLinked, EndsOf}
 
 -- The list rs of the head h, whose first record r is not below the key, and the open list cs of the head hc share nothing.
-pub record Movable (a : List ℕ) (h hc key : ℕ) (cs : List ℕ) (r : ℕ) (rs cutc : List ℕ) : Type 0 where
+pub record Movable (a : List ℕ) (h hc key : ℕ) (cs : List ℕ) (r : ℕ) (rs ends : List ℕ) : Type 0 where
   pub list : Searchable a h (r ∷ rs)
   pub some : 1 ≤ key
   pub first : key ≤ mWord a r
   pub result : OpenLinked a hc cs
-  pub ends : CutC a hc cs cutc
+  pub result-ends : EndsOf a hc cs ends
   pub heads : h ≡ hc → ⊥
   pub head-away : Away h cs
   pub result-away : Away hc (r ∷ rs)
   pub apart : All (λ x. Away x (r ∷ rs)) cs
 
 -- The records fr in front were moved, and back are left.
-pub record Moved (a b : List ℕ) (h hc q : ℕ) (cs fr back cutd : List ℕ) : Type 0 where
+pub record Moved (a b : List ℕ) (h hc q : ℕ) (cs fr back ends' : List ℕ) : Type 0 where
   pub length-kept : length b ≡ length a
   pub list : Linked b h back
   pub result : OpenLinked b hc (cs ++ fr)
-  pub ends : CutC b hc (cs ++ fr) cutd
+  pub result-ends : EndsOf b hc (cs ++ fr) ends'
   pub level-kept : (x : ℕ) → level b x ≡ level a x
   pub m-kept : (x : ℕ) → mWord b x ≡ mWord a x
   pub values : trues b (adjust b hc) (cs ++ fr) ≡ trues a (adjust a hc) cs ++ map (λ (t : ℕ). wrap t q) (trues a (adjust a h) fr)

@@ -7,6 +7,7 @@ ghost use Rattle.settling.specs.Cached.{Cached};
 ghost use Rattle.moving.specs.Advance.{RunReady, RunMoved};
 use crate::cut_run::cut_run;
 use crate::move_one::move_one;
+use arena::words::FORWARD;
 use arena::words::get;
 use arena::words::wide;
 use searching::search::may_pass;
@@ -28,8 +29,8 @@ pub fn linked_run(
     ensures { λ _. ⌜ RunMoved (now (arena .entry)) (now (arena .exit)) head key q (now (ends .entry)) (now (ends .exit)) ⌝ }
     ensures { λ _. ⌜ Cached (now (arena .exit)) head (now (ends .exit)) (now (sums .exit)) (now (lasts .exit)) ⌝ }
 {
-    let first = wide(get(arena, head, 3));
-    let next = wide(get(arena, first, 3));
+    let first = wide(get(arena, head, FORWARD));
+    let next = wide(get(arena, first, FORWARD));
     if may_pass(arena, next, key) {
         cut_run(arena, head, key, q, ends, sums, lasts);
     } else {

@@ -9,6 +9,10 @@ ghost use Rattle.searching.specs.Cut.{passes};
 ghost use Rattle.splicing.specs.Open.{cutSums};
 ghost use Rattle.settling.specs.Cached.{Cached};
 ghost use Rattle.moving.specs.Advance.{RunReady, RunMoved};
+use arena::words::ADJUST;
+use arena::words::FORWARD;
+use arena::words::LEVEL;
+use arena::words::P;
 use arena::words::get;
 use arena::words::raise;
 use arena::words::wide;
@@ -23,7 +27,7 @@ fn adjusts_of(arena: &[u32], r: usize) -> [u32; 8]
     let mut found = [0u32; 8];
     let mut k = 0;
     while k < 8 {
-        found[k] = get(arena, r, 11 + k);
+        found[k] = get(arena, r, ADJUST + k);
         k += 1;
     }
     found
@@ -46,10 +50,10 @@ pub fn move_one(
     ensures { λ _. ⌜ RunMoved (now (arena .entry)) (now (arena .exit)) head key q (now (ends .entry)) (now (ends .exit)) ⌝ }
     ensures { λ _. ⌜ Cached (now (arena .exit)) head (now (ends .exit)) (now (sums .exit)) (now (lasts .exit)) ⌝ }
 {
-    let r = wide(get(arena, head, 3));
-    let level = wide(get(arena, r, 0));
+    let r = wide(get(arena, head, FORWARD));
+    let level = wide(get(arena, r, LEVEL));
     let v = lift(q, sums, lasts, level);
-    raise(arena, r, 2, v);
+    raise(arena, r, P, v);
     let cut = [r; 8];
     let found = adjusts_of(arena, r);
     relink(arena, head, &cut, &found, level, ends, sums, lasts);

@@ -5,6 +5,7 @@ ghost use Rattle.arena.specs.Arena.{forward};
 ghost use Rattle.searching.specs.Cut.{passes};
 ghost use Rattle.settling.specs.Cached.{Cached};
 ghost use Rattle.moving.specs.Advance.{RunReady, RunMoved};
+use arena::words::ADJUST;
 use arena::words::get;
 use searching::walk::walk;
 use settling::lift::lift;
@@ -29,7 +30,7 @@ pub fn walk_run(
 {
     let v = lift(q, sums, lasts, 1);
     let to = walk(arena, head, key, v);
-    let sum = get(arena, to, 11);
+    let sum = get(arena, to, ADJUST);
     relink_one(arena, head, ends[0], to, 0, sum);
     ends[0] = to;
 }

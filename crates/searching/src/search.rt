@@ -6,6 +6,9 @@ ghost use Prim.Native.Nat.{ℕ, _≤_};
 ghost use lib.ListN.{length};
 ghost use Rattle.arena.specs.Arena.{forward};
 ghost use Rattle.searching.specs.Cut.{Searchable, LinkCount, CutAt, Reachable, passes};
+use arena::words::ADJUST;
+use arena::words::FORWARD;
+use arena::words::M;
 use arena::words::get;
 use arena::words::wide;
 
@@ -15,7 +18,7 @@ pub fn may_pass(arena: &[u32], r: usize, key: u32) -> bool
     requires { ⌜ Reachable (now arena) r × (1 ≤ key) ⌝ }
     ensures { λ b. ⌜ b ≡ passes (now (arena .entry)) r key ⌝ }
 {
-    key <= get(arena, r, 1)
+    key <= get(arena, r, M)
 }
 
 // How many links the records in front have, where one of them has link 1. They are counted from below, since few records
@@ -27,7 +30,7 @@ pub fn count_links(arena: &[u32], head: usize, key: u32) -> usize
 {
     let mut n = 2;
     while n < 8 {
-        let next = wide(get(arena, head, 3 + n));
+        let next = wide(get(arena, head, FORWARD + n));
         if may_pass(arena, next, key) {
             n += 1;
         } else {
@@ -48,12 +51,12 @@ pub fn search(arena: &[u32], head: usize, key: u32, n: usize, cut: &mut [usize],
     let mut i = n;
     while 0 < i {
         let k = i - 1;
-        let next = wide(get(arena, cur, 3 + k));
+        let next = wide(get(arena, cur, FORWARD + k));
         if may_pass(arena, next, key) {
             cur = next;
         } else {
             cut[k] = cur;
-            sums[k] = get(arena, cur, 11 + k);
+            sums[k] = get(arena, cur, ADJUST + k);
             i = k;
         }
     }

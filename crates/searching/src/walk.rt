@@ -4,6 +4,8 @@ ghost use Prim.Native.Nat.{ℕ, _≤_};
 ghost use Rattle.searching.specs.Cut.{Searchable};
 ghost use Rattle.searching.specs.Walk.{Walked};
 use crate::search::may_pass;
+use arena::words::FORWARD;
+use arena::words::P;
 use arena::words::get;
 use arena::words::raise;
 use arena::words::wide;
@@ -14,12 +16,12 @@ pub fn walk(arena: &mut [u32], head: usize, key: u32, v: u32) -> usize
     ensures { λ to. ⌜ ((rs : List ℕ) → Searchable (now (arena .entry)) head rs → Walked (now (arena .entry)) (now (arena .exit)) head key v rs to) ⌝ }
 {
     let mut cur = head;
-    let mut next = wide(get(arena, head, 3));
+    let mut next = wide(get(arena, head, FORWARD));
     let mut more = may_pass(arena, next, key);
     while more {
         cur = next;
-        raise(arena, cur, 2, v);
-        next = wide(get(arena, cur, 3));
+        raise(arena, cur, P, v);
+        next = wide(get(arena, cur, FORWARD));
         more = may_pass(arena, next, key);
     }
     cur

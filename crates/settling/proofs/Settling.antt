@@ -11,7 +11,7 @@ use borrow.Author.Tests.{lt-ltb, le-ltb, eq-eqb, ne-eqb}
 use Rattle.arena.specs.Arena.{word, level}
 use Rattle.arena.specs.Lazy.{nextWith, sumFrom}
 use Rattle.arena.specs.Turning.{Suffixes}
-use Rattle.arena.specs.Chain.{Has, wrap, All, Away, Chain, Linked, trues, leaving, Same, Shape, Value}
+use Rattle.arena.specs.Chain.{Has, wrap, All, Away, Chain, Linked, trues, leaving, Same, Shape, Value, closed}
 use Rattle.arena.proofs.Cases.{lt-or-ge}
 use Rattle.arena.proofs.ListLaws.{last-none, all-left, last-forward, apart-from}
 use Rattle.arena.proofs.PutLaws.{same-refl, same-trans}
@@ -28,48 +28,48 @@ use Rattle.settling.proofs.FrontLaws.{Parts, parts, parts-whole, starts
 
 -- The sums that enter the front: those of the head below link i, and those that it is to be entered with from i on.
 unfoldable pub entering : List ℕ → ℕ → List ℕ → ℕ → ℕ → ℕ
-entering a head cutc i j = cond (ltb j i) (headSums a head j) (lastSums a cutc j)
+entering a head ends i j = cond (ltb j i) (headSums a head j) (lastSums a ends j)
 
-module _ (a : List ℕ) (head : ℕ) (cutc : List ℕ) (i j : ℕ) where
-  entering-low : j < i → entering a head cutc i j ≡ headSums a head j
+module _ (a : List ℕ) (head : ℕ) (ends : List ℕ) (i j : ℕ) where
+  entering-low : j < i → entering a head ends i j ≡ headSums a head j
   unfolding entering
   entering-low h = simp (lt-ltb j i h)
 
-  entering-high : i ≤ j → entering a head cutc i j ≡ lastSums a cutc j
+  entering-high : i ≤ j → entering a head ends i j ≡ lastSums a ends j
   unfolding entering
   entering-high h = simp (le-ltb j i h)
 
 -- The true p of the front as they are to be: before the first record with link i each is still to be raised.
-abbrev pub Owed : (a₀ b : List ℕ) (head i carry q : ℕ) (cutc front low rest : List ℕ) → Type 0
-Owed a₀ b head i carry q cutc front low rest =
-    map (λ (t : ℕ). wrap t carry) (trues b (entering a₀ head cutc i) low) ++ trues b (leaving b (entering a₀ head cutc i) low) rest
+abbrev pub Owed : (a₀ b : List ℕ) (head i carry q : ℕ) (ends front low rest : List ℕ) → Type 0
+Owed a₀ b head i carry q ends front low rest =
+    map (λ (t : ℕ). wrap t carry) (trues b (entering a₀ head ends i) low) ++ trues b (leaving b (entering a₀ head ends i) low) rest
     ≡ map (λ (t : ℕ). wrap t q) (trues a₀ (headSums a₀ head) front)
 
-pub record Left (a₀ b : List ℕ) (head i stop q : ℕ) (cutc front back : List ℕ) : Type 0 where
+pub record Left (a₀ b : List ℕ) (head i stop q : ℕ) (ends front back : List ℕ) : Type 0 where
   pub shape : (x : ℕ) → Shape a₀ b x
   pub outside : (x : ℕ) → Away x front → Same a₀ b x
   pub part : Parts b i front
   pub stop-is : stop ≡ nextWith b (i - 1) (part .rest ++ back)
-  pub owed : (carry : ℕ) → MakesUp (headSums a₀ head) (lastSums a₀ cutc) i q carry → Owed a₀ b head i carry q cutc front (part .low) (part .rest)
+  pub owed : (carry : ℕ) → MakesUp (headSums a₀ head) (lastSums a₀ ends) i q carry → Owed a₀ b head i carry q ends front (part .low) (part .rest)
 
 pub record Settling (a₀ b : List ℕ) (head n i stop q : ℕ) (cut sums lasts : List ℕ) : Type 0 where
   pub length-kept : length b ≡ length a₀
   pub some : 1 ≤ i
   pub below : i ≤ n
-  pub left : (cutc front back : List ℕ) → Ready a₀ head n cut cutc front back → Cached a₀ head cutc sums lasts → Left a₀ b head i stop q cutc front back
+  pub left : (ends front back : List ℕ) → Ready a₀ head n cut front back → Cached a₀ head ends sums lasts → Left a₀ b head i stop q ends front back
 
 -- Some record of the front has each link below n.
-tall : (a : List ℕ) (head n : ℕ) (cut cutc front back : List ℕ) → Ready a head n cut cutc front back → (k : ℕ) → k < n → All (λ x. level a x ≤ k) front → ⊥
-tall a head n cut cutc front back r k h low =
+tall : (a : List ℕ) (head n : ℕ) (cut front back : List ℕ) → Ready a head n cut front back → (k : ℕ) → k < n → All (λ x. level a x ≤ k) front → ⊥
+tall a head n cut front back r k h low =
     r .cut-in (r .cut-at ∙ last-none a (n - 1) head front (all-map front (λ x e. omega arith) low))
 
 -- The start.
 module _ (a : List ℕ) (head n stop q : ℕ) (cut sums lasts : List ℕ) (first-stop : stop ≡ word a (getD cut (n - 1) 0) (3 + (n - 1))) where
-  left-start : (cutc front back : List ℕ) → Ready a head n cut cutc front back → Cached a head cutc sums lasts → Left a a head n stop q cutc front back
+  left-start : (ends front back : List ℕ) → Ready a head n cut front back → Cached a head ends sums lasts → Left a a head n stop q ends front back
   unfolding parts-whole trues
-  left-start cutc front back r kept =
-      let f : ℕ → ℕ = entering a head cutc n in
-      let same : sumFrom f n 8 ≡ sumFrom (lastSums a cutc) n 8 = sum-agree (lastSums a cutc) f n 8 (λ j low high. entering-high a head cutc n j low) in
+  left-start ends front back r kept =
+      let f : ℕ → ℕ = entering a head ends n in
+      let same : sumFrom f n 8 ≡ sumFrom (lastSums a ends) n 8 = sum-agree (lastSums a ends) f n 8 (λ j low high. entering-high a head ends n j low) in
       let top = r .linked .top in
       let most = r .most in
       let some = r .some in
@@ -82,15 +82,15 @@ module _ (a : List ℕ) (head n stop q : ℕ) (cut sums lasts : List ℕ) (first
             ∙ last-forward a (n - 1) head front back (r .linked .links .at (n - 1) (omega arith)) (r .linked .chain);
         owed = λ carry made.
             append-nil (map (λ (t : ℕ). wrap t carry) (trues a f front))
-            ∙ trues-above a n carry q most f (headSums a head) (λ j h. entering-low a head cutc n j h)
+            ∙ trues-above a n carry q most f (headSums a head) (λ j h. entering-low a head ends n j h)
             (ap (λ (x : ℕ). (carry + x) % 2 ^ 32) same ∙ made) front (r .lower);
       }
 
   pub settling-start : 1 ≤ n → Settling a a head n n stop q cut sums lasts
   settling-start some = record { length-kept = refl; some = some; below = omega arith; left = left-start }
 
-pub ready-cut : (a : List ℕ) (head n : ℕ) (cut cutc front back : List ℕ) → Ready a head n cut cutc front back → Has a (getD cut (n - 1) 0)
-ready-cut a head n cut cutc front back r = rw (r .cut-at) (last-has a (n - 1) head front back (r .linked .has) (r .linked .chain))
+pub ready-cut : (a : List ℕ) (head n : ℕ) (cut front back : List ℕ) → Ready a head n cut front back → Has a (getD cut (n - 1) 0)
+ready-cut a head n cut front back r = rw (r .cut-at) (last-has a (n - 1) head front back (r .linked .has) (r .linked .chain))
 
 -- The carries to two links, one below the other, differ by what the sums at the lower one are.
 cancel : (c d x : ℕ) → (c + x) % 2 ^ 32 ≡ (d + x) % 2 ^ 32 → c % 2 ^ 32 ≡ d % 2 ^ 32
@@ -110,42 +110,42 @@ turned-round : (c d x y : ℕ) → (c + x) % 2 ^ 32 ≡ (d + y) % 2 ^ 32 → (y 
 turned-round c d x y e = omega arith
 
 -- The sums of the turn at link k: those that enter at i, raised by the carry at k, are those that enter at k, raised by the next carry at k.
-module _ (a : List ℕ) (head : ℕ) (cutc : List ℕ) (i k carry : ℕ) where
+module _ (a : List ℕ) (head : ℕ) (ends : List ℕ) (i k carry : ℕ) where
   unfoldable raisedSums : ℕ → ℕ
-  raisedSums j = cond (eqb j k) (entering a head cutc i k + carry) (entering a head cutc i j)
+  raisedSums j = cond (eqb j k) (entering a head ends i k + carry) (entering a head ends i j)
 
-  raised-here : raisedSums k ≡ entering a head cutc i k + carry
+  raised-here : raisedSums k ≡ entering a head ends i k + carry
   unfolding raisedSums
   raised-here = simp (eq-eqb k k refl)
 
-  raised-other : (j : ℕ) → (j ≡ k → ⊥) → raisedSums j ≡ entering a head cutc i j
+  raised-other : (j : ℕ) → (j ≡ k → ⊥) → raisedSums j ≡ entering a head ends i j
   unfolding raisedSums
   raised-other j ne = simp (ne-eqb j k ne)
 
-  bumped-from : Bumped k carry (entering a head cutc i) raisedSums
+  bumped-from : Bumped k carry (entering a head ends i) raisedSums
   bumped-from =
       record { at = λ some. ap (λ (x : ℕ). x % 2 ^ 32) raised-here; other = λ j few ne. raised-other j ne }
 
-  bumped-to : (carry' : ℕ) → i ≡ suc k → (carry' + lastSums a cutc k) % 2 ^ 32 ≡ (carry + headSums a head k) % 2 ^ 32 → Bumped k carry' (entering a head cutc k) raisedSums
+  bumped-to : (carry' : ℕ) → i ≡ suc k → (carry' + lastSums a ends k) % 2 ^ 32 ≡ (carry + headSums a head k) % 2 ^ 32 → Bumped k carry' (entering a head ends k) raisedSums
   bumped-to carry' e next =
-      let was : entering a head cutc i k ≡ headSums a head k = entering-low a head cutc i k (omega arith) in
-      let is : entering a head cutc k k ≡ lastSums a cutc k = entering-high a head cutc k k (omega arith) in
+      let was : entering a head ends i k ≡ headSums a head k = entering-low a head ends i k (omega arith) in
+      let is : entering a head ends k k ≡ lastSums a ends k = entering-high a head ends k k (omega arith) in
       record {
         at = λ some.
             ap (λ (x : ℕ). x % 2 ^ 32) (raised-here ∙ ap (λ (x : ℕ). x + carry) was)
-            ∙ turned-round carry' carry (lastSums a cutc k) (headSums a head k) next
+            ∙ turned-round carry' carry (lastSums a ends k) (headSums a head k) next
             ∙ ap (λ (x : ℕ). (x + carry') % 2 ^ 32) (sym is);
         other = λ j few ne.
             raised-other j ne
             ∙ lt-or-ge j k
-            (λ h. entering-low a head cutc i j (omega arith) ∙ sym (entering-low a head cutc k j h))
-            (λ h. entering-high a head cutc i j (omega arith) ∙ sym (entering-high a head cutc k j h));
+            (λ h. entering-low a head ends i j (omega arith) ∙ sym (entering-low a head ends k j h))
+            (λ h. entering-high a head ends i j (omega arith) ∙ sym (entering-high a head ends k j h));
       }
 
 -- One turn at the link i - 1, from the head's forward on.
-module _ (a₀ b : List ℕ) (head n i stop q : ℕ) (cut sums lasts : List ℕ) (g : Settling a₀ b head n i stop q cut sums lasts) (cutc front back : List ℕ) (r : Ready a₀ head n cut cutc front back) (kept : Cached a₀ head cutc sums lasts) where
-  abbrev l : Left a₀ b head i stop q cutc front back
-  l = g .left cutc front back r kept
+module _ (a₀ b : List ℕ) (head n i stop q : ℕ) (cut sums lasts : List ℕ) (g : Settling a₀ b head n i stop q cut sums lasts) (ends front back : List ℕ) (r : Ready a₀ head n cut front back) (kept : Cached a₀ head ends sums lasts) where
+  abbrev l : Left a₀ b head i stop q ends front back
+  l = g .left ends front back r kept
 
   linked : Linked b head (front ++ back)
   linked = linked-frame a₀ b head (front ++ back) (g .length-kept) (l .shape head) (all-refl (front ++ back) (l .shape)) (r .linked)
@@ -160,7 +160,7 @@ module _ (a₀ b : List ℕ) (head n i stop q : ℕ) (cut sums lasts : List ℕ)
   lower = all-map (l .part .low) (λ x e. omega arith) (l .part .lower)
 
   some-of : (c : List ℕ) → Linked c head (front ++ back) → All (λ x. 1 ≤ level c x) front
-  some-of c list = all-left (λ x. 1 ≤ level c x) front back (chain-low c (front ++ back) (list .chain))
+  some-of c list = all-left (λ x. 1 ≤ level c x) front back (chain-low closed c (front ++ back) (list .chain))
 
   low-some : All (λ x. 1 ≤ level b x) (l .part .low)
   low-some =
@@ -176,7 +176,7 @@ module _ (a₀ b : List ℕ) (head n i stop q : ℕ) (cut sums lasts : List ℕ)
   heads-has = linked .has
 
   -- The arena after the turn.
-  module _ (b' : List ℕ) (carry : ℕ) (made : MakesUp (headSums a₀ head) (lastSums a₀ cutc) i q carry) (long : length b' ≡ length b) (lift : Lifting b b' (i - 1) carry (l .part .low)) where
+  module _ (b' : List ℕ) (carry : ℕ) (made : MakesUp (headSums a₀ head) (lastSums a₀ ends) i q carry) (long : length b' ≡ length b) (lift : Lifting b b' (i - 1) carry (l .part .low)) where
     away-low : (x : ℕ) → Away x front → Away x (l .part .low)
     away-low x away = all-left (λ y. y ≡ x → ⊥) (l .part .low) (l .part .rest) (subst (Away x) (l .part .split) away)
 
@@ -205,7 +205,7 @@ module _ (a₀ b : List ℕ) (head n i stop q : ℕ) (cut sums lasts : List ℕ)
         e ∙ sym (lift .shape head .forward-kept (i - 1) small)
         ∙ next-low b' head (i - 1) small front back linked' (part' .low) (part' .rest) (part' .split) (i - 1 - 1) (omega arith)
         (part' .lower) (part' .starts)
-        (λ low. tall a₀ head n cut cutc front back r (i - 1) (let below = g .below in omega arith) (all-map front (λ x h. let s = shape' x .level-kept in omega arith) low))
+        (λ low. tall a₀ head n cut front back r (i - 1) (let below = g .below in omega arith) (all-map front (λ x h. let s = shape' x .level-kept in omega arith) low))
 
     behind : All (Value b b') (l .part .rest)
     behind =
@@ -215,24 +215,24 @@ module _ (a₀ b : List ℕ) (head n i stop q : ℕ) (cut sums lasts : List ℕ)
         (subst (Chain b) (ap (λ (x : List ℕ). x ++ back) (l .part .split) ∙ append-assoc (l .part .low) (l .part .rest) back) (linked .chain))))
 
     -- With the raised sum of the link every true p is right.
-    right-raised : trues b' (raisedSums a₀ head cutc i (i - 1) carry) front ≡ map (λ (t : ℕ). wrap t q) (trues a₀ (headSums a₀ head) front)
+    right-raised : trues b' (raisedSums a₀ head ends i (i - 1) carry) front ≡ map (λ (t : ℕ). wrap t q) (trues a₀ (headSums a₀ head) front)
     right-raised =
-        ap (trues b' (raisedSums a₀ head cutc i (i - 1) carry)) (l .part .split)
-        ∙ trues-parted b b' (i - 1) carry small (lift .shape) (entering a₀ head cutc i) (raisedSums a₀ head cutc i (i - 1) carry)
-        (bumped-from a₀ head cutc i (i - 1) carry) (l .part .low) (l .part .rest) low-some lower (lift .each)
+        ap (trues b' (raisedSums a₀ head ends i (i - 1) carry)) (l .part .split)
+        ∙ trues-parted b b' (i - 1) carry small (lift .shape) (entering a₀ head ends i) (raisedSums a₀ head ends i (i - 1) carry)
+        (bumped-from a₀ head ends i (i - 1) carry) (l .part .low) (l .part .rest) low-some lower (lift .each)
         (starts-lower b i (i - 1) (l .part .rest) (omega arith) (l .part .starts)) behind
         ∙ l .owed carry made
 
-    owed' : (carry' : ℕ) → MakesUp (headSums a₀ head) (lastSums a₀ cutc) (i - 1) q carry' → Owed a₀ b' head (i - 1) carry' q cutc front (part' .low) (part' .rest)
+    owed' : (carry' : ℕ) → MakesUp (headSums a₀ head) (lastSums a₀ ends) (i - 1) q carry' → Owed a₀ b' head (i - 1) carry' q ends front (part' .low) (part' .rest)
     owed' carry' made' =
         sym (trues-parted b' b' (i - 1) carry' small (λ x. record { level-kept = refl; m-kept = refl; forward-kept = λ j h. refl })
-        (entering a₀ head cutc (i - 1)) (raisedSums a₀ head cutc i (i - 1) carry)
-        (bumped-to a₀ head cutc i (i - 1) carry carry' (omega (arith, more)) next) (part' .low) (part' .rest)
+        (entering a₀ head ends (i - 1)) (raisedSums a₀ head ends i (i - 1) carry)
+        (bumped-to a₀ head ends i (i - 1) carry carry' (omega (arith, more)) next) (part' .low) (part' .rest)
         (all-left (λ x. 1 ≤ level b' x) (part' .low) (part' .rest) (subst (All (λ x. 1 ≤ level b' x)) (part' .split) (some-of b' linked')))
         (all-map (part' .low) (λ x h. omega arith) (part' .lower))
         (lifted-none b' (i - 1) carry' (part' .low) (part' .lower)) (part' .starts)
         (all-refl (part' .rest) (λ x. same-value b' b' x (same-refl b' x))))
-        ∙ ap (trues b' (raisedSums a₀ head cutc i (i - 1) carry)) (sym (part' .split))
+        ∙ ap (trues b' (raisedSums a₀ head ends i (i - 1) carry)) (sym (part' .split))
         ∙ right-raised
       where
         -- The sums from the link below up are one link more.
@@ -242,26 +242,26 @@ module _ (a₀ b : List ℕ) (head n i stop q : ℕ) (cut sums lasts : List ℕ)
             let same : suc (i - 1) ≡ i = omega arith in
             sum-first f (i - 1) 8 small ∙ ap (λ (j : ℕ). f (i - 1) + sumFrom f j 8) same
 
-        next : (carry' + lastSums a₀ cutc (i - 1)) % 2 ^ 32 ≡ (carry + headSums a₀ head (i - 1)) % 2 ^ 32
+        next : (carry' + lastSums a₀ ends (i - 1)) % 2 ^ 32 ≡ (carry + headSums a₀ head (i - 1)) % 2 ^ 32
         next =
-            next-carry q carry carry' (sumFrom (lastSums a₀ cutc) i 8) (sumFrom (headSums a₀ head) i 8) (lastSums a₀ cutc (i - 1)) (headSums a₀ head (i - 1)) made
-            (ap (λ (x : ℕ). (carry' + x) % 2 ^ 32) (sym (first-of (lastSums a₀ cutc))) ∙ made' ∙ ap (λ (x : ℕ). (q + x) % 2 ^ 32) (first-of (headSums a₀ head)))
+            next-carry q carry carry' (sumFrom (lastSums a₀ ends) i 8) (sumFrom (headSums a₀ head) i 8) (lastSums a₀ ends (i - 1)) (headSums a₀ head (i - 1)) made
+            (ap (λ (x : ℕ). (carry' + x) % 2 ^ 32) (sym (first-of (lastSums a₀ ends))) ∙ made' ∙ ap (λ (x : ℕ). (q + x) % 2 ^ 32) (first-of (headSums a₀ head)))
 
-    left-turn : (first : ℕ) → first ≡ word b head (3 + (i - 1)) → Left a₀ b' head (i - 1) first q cutc front back
+    left-turn : (first : ℕ) → first ≡ word b head (3 + (i - 1)) → Left a₀ b' head (i - 1) first q ends front back
     left-turn first e =
         record { shape = shape'; outside = outside'; part = part'; stop-is = stop' first e; owed = owed' }
 
     -- After the turn at link 0 the front is settled: what is left differs at link 0 alone, which counts for no record.
-    settled-last : i - 1 ≡ 0 → Settled a₀ b' head q cutc front
+    settled-last : i - 1 ≡ 0 → Settled a₀ b' head q ends front
     settled-last last =
         record {
           length-kept = long ∙ g .length-kept;
           shape = shape';
           outside = outside';
           values =
-              lowest-free b' (raisedSums a₀ head cutc i (i - 1) carry) (lastSums a₀ cutc) front (some-of b' linked')
+              lowest-free b' (raisedSums a₀ head ends i (i - 1) carry) (lastSums a₀ ends) front (some-of b' linked')
               (λ k some high.
-              sym (raised-other a₀ head cutc i (i - 1) carry k (omega arith) ∙ entering-high a₀ head cutc i k (omega arith)))
+              sym (raised-other a₀ head ends i (i - 1) carry k (omega arith) ∙ entering-high a₀ head ends i k (omega arith)))
               ∙ right-raised;
         }
 
@@ -280,9 +280,9 @@ module _ (a₀ b : List ℕ) (head n i stop q : ℕ) (cut sums lasts : List ℕ)
         length-kept = long ∙ g .length-kept;
         some = omega arith;
         below = let below = g .below in omega arith;
-        left = λ cutc front back r kept.
-            left-turn a₀ b head n i stop q cut sums lasts g cutc front back r kept b' carry (carries _ _ (kept .head) (kept .ends)) long
-            (lifts _ (settling-chained a₀ b head n i stop q cut sums lasts g cutc front back r kept first e)) first e;
+        left = λ ends front back r kept.
+            left-turn a₀ b head n i stop q cut sums lasts g ends front back r kept b' carry (carries _ _ (kept .head) (kept .ends)) long
+            (lifts _ (settling-chained a₀ b head n i stop q cut sums lasts g ends front back r kept first e)) first e;
       }
 
   -- Behind the loop link 0 is left.
@@ -293,16 +293,16 @@ module _ (a₀ b : List ℕ) (head n i stop q : ℕ) (cut sums lasts : List ℕ)
     none : i - 1 ≡ 0
     none = let some = g .some in omega arith
 
-    pub lowest-chained : (cutc front back : List ℕ) → Ready a₀ head n cut cutc front back → Cached a₀ head cutc sums lasts → (first : ℕ) → first ≡ word b head 3 → (rs : List ℕ) × Chained b 0 first stop rs
-    lowest-chained cutc front back r kept first e =
+    pub lowest-chained : (ends front back : List ℕ) → Ready a₀ head n cut front back → Cached a₀ head ends sums lasts → (first : ℕ) → first ≡ word b head 3 → (rs : List ℕ) × Chained b 0 first stop rs
+    lowest-chained ends front back r kept first e =
         subst (λ (k : ℕ). (rs : List ℕ) × Chained b k first stop rs) none
-        (_, settling-chained a₀ b head n i stop q cut sums lasts g cutc front back r kept first (subst (λ (k : ℕ). first ≡ word b head (3 + k)) (sym none) e))
+        (_, settling-chained a₀ b head n i stop q cut sums lasts g ends front back r kept first (subst (λ (k : ℕ). first ≡ word b head (3 + k)) (sym none) e))
 
     module _ (b' : List ℕ) (carry first : ℕ) (long : length b' ≡ length b) (carries : Carries q sums lasts 1 carry) (e : first ≡ word b head 3) (lifts : Lifts b b' 0 first stop carry) where
-      pub settling-done : (cutc front back : List ℕ) → Ready a₀ head n cut cutc front back → Cached a₀ head cutc sums lasts → Settled a₀ b' head q cutc front
-      settling-done cutc front back r kept =
-          settled-last a₀ b head n i stop q cut sums lasts g cutc front back r kept b' carry
+      pub settling-done : (ends front back : List ℕ) → Ready a₀ head n cut front back → Cached a₀ head ends sums lasts → Settled a₀ b' head q ends front
+      settling-done ends front back r kept =
+          settled-last a₀ b head n i stop q cut sums lasts g ends front back r kept b' carry
           (subst (λ (j : ℕ). Carries q sums lasts j carry) (sym last) carries _ _ (kept .head) (kept .ends)) long
           (subst (λ (k : ℕ). Lifts b b' k first stop carry) (sym none) lifts _
-          (settling-chained a₀ b head n i stop q cut sums lasts g cutc front back r kept first (subst (λ (k : ℕ). first ≡ word b head (3 + k)) (sym none) e)))
+          (settling-chained a₀ b head n i stop q cut sums lasts g ends front back r kept first (subst (λ (k : ℕ). first ≡ word b head (3 + k)) (sym none) e)))
           none

@@ -1,25 +1,19 @@
 -- What settling the front of a list does: the front is to be entered with the sums of another list's last records, and each of its true p is raised by q, while links, levels and m stay. No public contract cites it.
 use mathlib.Core.Path.{_≡_}
 use mathlib.Core.List.{List, _++_, map}
-use Prim.Native.Nat.{ℕ, _-_, _≤_, _<_}
+use Prim.Native.Nat.{ℕ, _-_, _≤_}
 use lib.ListN.{length, getD}
 use Rattle.arena.specs.Arena.{level, adjust}
 use Rattle.arena.specs.Lazy.{lastWith}
-use Rattle.arena.specs.Chain.{Has, wrap, All, Away, Linked, trues, Same, Shape}
+use Rattle.arena.specs.Chain.{wrap, All, Away, Linked, trues, Same, Shape}
 use Rattle.splicing.specs.Open.{lastSums}
 
 -- The sums of a head.
 abbrev pub headSums : List ℕ → ℕ → ℕ → ℕ
 headSums a head k = adjust a head k
 
--- The arena has the head and the last record with each link.
-pub record Ends (a : List ℕ) (head : ℕ) (last : List ℕ) : Type 0 where
-  pub head-has : Has a head
-  pub long : 8 ≤ length last
-  pub last-has : (k : ℕ) → k < 8 → Has a (getD last k 0)
-
--- The front of a list can be settled: n is the most links that one of its records has, `cut` has the last one with the highest link, and `cutc` the records whose sums it is to be entered with, which are not of the front.
-pub record Ready (a : List ℕ) (head n : ℕ) (cut cutc front back : List ℕ) : Type 0 where
+-- The front of a list can be settled: n is the most links that one of its records has, and `cut` has the last one with the highest link.
+pub record Ready (a : List ℕ) (head n : ℕ) (cut front back : List ℕ) : Type 0 where
   pub linked : Linked a head (front ++ back)
   pub some : 1 ≤ n
   pub most : n ≤ 8
@@ -27,12 +21,11 @@ pub record Ready (a : List ℕ) (head n : ℕ) (cut cutc front back : List ℕ) 
   pub long : 8 ≤ length cut
   pub cut-at : getD cut (n - 1) 0 ≡ lastWith a (n - 1) head front
   pub cut-in : getD cut (n - 1) 0 ≡ head → ⊥
-  pub ends : Ends a head cutc
-  pub apart : (k : ℕ) → k < 8 → Away (getD cutc k 0) front
   pub few : length (front ++ back) ≤ 512
 
-pub record Settled (a b : List ℕ) (head q : ℕ) (cutc front : List ℕ) : Type 0 where
+-- Settled with the sums of the records `ends`.
+pub record Settled (a b : List ℕ) (head q : ℕ) (ends front : List ℕ) : Type 0 where
   pub length-kept : length b ≡ length a
   pub shape : (x : ℕ) → Shape a b x
   pub outside : (x : ℕ) → Away x front → Same a b x
-  pub values : trues b (lastSums a cutc) front ≡ map (λ (t : ℕ). wrap t q) (trues a (headSums a head) front)
+  pub values : trues b (lastSums a ends) front ≡ map (λ (t : ℕ). wrap t q) (trues a (headSums a head) front)

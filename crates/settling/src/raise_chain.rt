@@ -2,6 +2,9 @@
 ghost use mathlib.Core.List.{List};
 ghost use Prim.Native.Nat.{ℕ, _<_};
 ghost use Rattle.settling.specs.Lift.{Lifting, Chained};
+use arena::words::ADJUST;
+use arena::words::FORWARD;
+use arena::words::P;
 use arena::words::get;
 use arena::words::raise;
 use arena::words::wide;
@@ -14,8 +17,8 @@ pub fn raise_chain(arena: &mut [u32], first: usize, stop: usize, k: usize, v: u3
 {
     let mut cur = first;
     while cur != stop {
-        raise(arena, cur, 2, v);
-        raise(arena, cur, 11 + k, v);
-        cur = wide(get(arena, cur, 3 + k));
+        raise(arena, cur, P, v);
+        raise(arena, cur, ADJUST + k, v);
+        cur = wide(get(arena, cur, FORWARD + k));
     }
 }

@@ -2,6 +2,8 @@
 ghost use mathlib.Core.List.{List};
 ghost use Prim.Native.Nat.{ℕ};
 ghost use Rattle.settling.specs.Lift.{Lifting, Chained};
+use arena::words::FORWARD;
+use arena::words::P;
 use arena::words::get;
 use arena::words::raise;
 use arena::words::wide;
@@ -14,7 +16,7 @@ pub fn raise_lowest(arena: &mut [u32], first: usize, stop: usize, v: u32)
 {
     let mut cur = first;
     while cur != stop {
-        raise(arena, cur, 2, v);
-        cur = wide(get(arena, cur, 3));
+        raise(arena, cur, P, v);
+        cur = wide(get(arena, cur, FORWARD));
     }
 }

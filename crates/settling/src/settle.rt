@@ -6,6 +6,7 @@ ghost use Rattle.settling.specs.Settled.{Ready, Settled};
 use crate::lift::lift;
 use crate::raise_chain::raise_chain;
 use crate::raise_lowest::raise_lowest;
+use arena::words::FORWARD;
 use arena::words::get;
 use arena::words::wide;
 
@@ -21,21 +22,21 @@ pub fn settle(
     sums: &[u32],
     lasts: &[u32],
 )
-    requires { ⌜ ((ends : List ℕ) × (front : List ℕ) × (back : List ℕ) × Ready (now arena) head n (now cut) ends front back × Cached (now arena) head ends (now sums) (now lasts)) ⌝ }
-    ensures { λ _. ⌜ ((ends front back : List ℕ) → Ready (now (arena .entry)) head n (now (cut .entry)) ends front back → Cached (now (arena .entry)) head ends (now (sums .entry)) (now (lasts .entry)) → Settled (now (arena .entry)) (now (arena .exit)) head q ends front) ⌝ }
+    requires { ⌜ ((ends : List ℕ) × (front : List ℕ) × (back : List ℕ) × Ready (now arena) head n (now cut) front back × Cached (now arena) head ends (now sums) (now lasts)) ⌝ }
+    ensures { λ _. ⌜ ((ends front back : List ℕ) → Ready (now (arena .entry)) head n (now (cut .entry)) front back → Cached (now (arena .entry)) head ends (now (sums .entry)) (now (lasts .entry)) → Settled (now (arena .entry)) (now (arena .exit)) head q ends front) ⌝ }
 {
     let top = n - 1;
-    let mut stop = wide(get(arena, cut[top], 3 + top));
+    let mut stop = wide(get(arena, cut[top], FORWARD + top));
     let mut i = n;
     while 1 < i {
         let k = i - 1;
-        let first = wide(get(arena, head, 3 + k));
+        let first = wide(get(arena, head, FORWARD + k));
         let carry = lift(q, sums, lasts, i);
         raise_chain(arena, first, stop, k, carry);
         stop = first;
         i = k;
     }
-    let first = wide(get(arena, head, 3));
+    let first = wide(get(arena, head, FORWARD));
     let carry = lift(q, sums, lasts, 1);
     raise_lowest(arena, first, stop, carry);
 }

@@ -6,33 +6,33 @@ use Prim.Native.Nat.{ℕ, _+_, _≤_, _<_}
 use native.Mathlib.Omega.{arith}
 use lib.ListN.{length, getD}
 use Rattle.arena.specs.Chain.{Has, put}
-use Rattle.splicing.specs.Open.{OpenLinked, CutC, Closed}
+use Rattle.splicing.specs.Open.{OpenLinked, EndsOf, Closed}
 use Rattle.splicing.proofs.ClosingLaws.{Ended, ended-none, ended-turn, ends-has, closed}
 
-pub record Closing (a₀ a cutc : List ℕ) (k : ℕ) : Type 0 where
+pub record Closing (a₀ a ends : List ℕ) (k : ℕ) : Type 0 where
   pub within : k ≤ 8
-  pub long : 8 ≤ length cutc
+  pub long : 8 ≤ length ends
   pub kept : length a ≡ length a₀
-  pub has : (i : ℕ) → i < 8 → Has a₀ (getD cutc i 0)
-  pub words : Ended a₀ a cutc k
+  pub has : (i : ℕ) → i < 8 → Has a₀ (getD ends i 0)
+  pub words : Ended a₀ a ends k
 
-pub closing-start : (a cutc : List ℕ) → (h : ℕ) × (cs : List ℕ) × OpenLinked a h cs × CutC a h cs cutc → Closing a a cutc 0
-closing-start a cutc p =
+pub closing-start : (a ends : List ℕ) → (h : ℕ) × (cs : List ℕ) × OpenLinked a h cs × EndsOf a h cs ends → Closing a a ends 0
+closing-start a ends p =
     record {
       within = omega arith;
       long = p .3 .long;
       kept = refl;
-      has = ends-has a (p .0) (p .1) cutc (p .2) (p .3);
-      words = ended-none a cutc;
+      has = ends-has a (p .0) (p .1) ends (p .2) (p .3);
+      words = ended-none a ends;
     }
 
-module _ (a₀ a cutc : List ℕ) (k : ℕ) (g : Closing a₀ a cutc k) where
-  pub closing-has : k < 8 → Has a (getD cutc k 0)
+module _ (a₀ a ends : List ℕ) (k : ℕ) (g : Closing a₀ a ends k) where
+  pub closing-has : k < 8 → Has a (getD ends k 0)
   closing-has less = let same = g .kept in let has = g .has k less in omega arith
 
-  pub closing-turn : k < 8 → (b : List ℕ) → b ≡ put a (getD cutc k 0) (3 + k) 0 → Closing a₀ b cutc (k + 1)
+  pub closing-turn : k < 8 → (b : List ℕ) → b ≡ put a (getD ends k 0) (3 + k) 0 → Closing a₀ b ends (k + 1)
   closing-turn less b e =
-      let words = subst (λ (x : List ℕ). Ended a₀ x cutc (k + 1)) (sym e) (ended-turn a₀ a cutc k less (g .has k less) (g .words)) in
+      let words = subst (λ (x : List ℕ). Ended a₀ x ends (k + 1)) (sym e) (ended-turn a₀ a ends k less (g .has k less) (g .words)) in
       record {
         within = omega arith;
         long = g .long;
@@ -41,8 +41,8 @@ module _ (a₀ a cutc : List ℕ) (k : ℕ) (g : Closing a₀ a cutc k) where
         words = words;
       }
 
-  pub closing-done : 8 ≤ k → (h : ℕ) (cs : List ℕ) → OpenLinked a₀ h cs → CutC a₀ h cs cutc → Closed a₀ a h cs cutc
-  closing-done over h cs l ends =
+  pub closing-done : 8 ≤ k → (h : ℕ) (cs : List ℕ) → OpenLinked a₀ h cs → EndsOf a₀ h cs ends → Closed a₀ a h cs ends
+  closing-done over h cs l lasts =
       let within = g .within in
       let e : k ≡ 8 = omega arith in
-      closed a₀ a cutc (subst (λ (i : ℕ). Ended a₀ a cutc i) e (g .words)) h cs l ends
+      closed a₀ a ends (subst (λ (i : ℕ). Ended a₀ a ends i) e (g .words)) h cs l lasts

@@ -1,41 +1,20 @@
 -- An open list, the result of a merge while it grows: the forward k of its last record with link k is not set yet, and every other forward is right. How the front of a list is moved behind it, and how it is closed. No public contract cites it.
 use mathlib.Core.Path.{_≡_}
-use mathlib.Core.List.{List, [], _∷_, _++_}
+use mathlib.Core.List.{List, _++_}
 use Prim.Native.Nat.{ℕ, _+_, _≤_, _<_}
 use lib.ListN.{length, getD}
-use Rattle.arena.specs.Arena.{word, level, mWord, pWord, forward, adjust}
+use Rattle.arena.specs.Arena.{level, mWord, pWord, adjust, forwardAt, adjustAt, forward}
 use Rattle.arena.specs.Lazy.{nextWith, lastWith}
-use Rattle.arena.specs.Chain.{Has, put, All, Away, Linked, Same}
-
--- The forwards of r are right before the records rs, at each link that one of rs has.
-pub record OpenLinks (a : List ℕ) (r : ℕ) (rs : List ℕ) : Type 0 where
-  pub at : (k : ℕ) → k < level a r → 1 ≤ nextWith a k rs → forward a r k ≡ nextWith a k rs
-
--- A record of an open list, before the records rs.
-pub record OpenMember (a : List ℕ) (r : ℕ) (rs : List ℕ) : Type 0 where
-  pub some : 1 ≤ r
-  pub has : Has a r
-  pub low : 1 ≤ level a r
-  pub high : level a r ≤ 8
-  pub links : OpenLinks a r rs
-  pub away : Away r rs
-
-abbrev pub OpenChain : List ℕ → List ℕ → Type 0
-OpenChain a [] = Unit {0}
-OpenChain a (r ∷ rs) = OpenMember a r rs × OpenChain a rs
+use Rattle.arena.specs.Chain.{put, All, Away, growing, LinkedOf, Linked, Same}
 
 -- The records rs are the open list of the head h.
-pub record OpenLinked (a : List ℕ) (h : ℕ) (rs : List ℕ) : Type 0 where
-  pub has : Has a h
-  pub top : level a h ≡ 8
-  pub links : OpenLinks a h rs
-  pub away : Away h rs
-  pub chain : OpenChain a rs
+abbrev pub OpenLinked : List ℕ → ℕ → List ℕ → Type 0
+OpenLinked = LinkedOf growing
 
 -- The ends of the list rs of the head h: for each link k the last record with it.
-pub record CutC (a : List ℕ) (h : ℕ) (rs cutc : List ℕ) : Type 0 where
-  pub long : 8 ≤ length cutc
-  pub at : (k : ℕ) → k < 8 → getD cutc k 0 ≡ lastWith a k h rs
+pub record EndsOf (a : List ℕ) (h : ℕ) (rs ends : List ℕ) : Type 0 where
+  pub long : 8 ≤ length ends
+  pub at : (k : ℕ) → k < 8 → getD ends k 0 ≡ lastWith a k h rs
 
 -- The sums of the last record with each link, and those at a cut, as the search found them.
 abbrev pub lastSums : List ℕ → List ℕ → ℕ → ℕ
@@ -46,18 +25,18 @@ cutSums sums k = getD sums k 0
 
 -- The arena with forward k of x made that of y.
 unfoldable pub passOn : List ℕ → ℕ → ℕ → ℕ → List ℕ
-passOn a x y k = put a x (3 + k) (word a y (3 + k))
+passOn a x y k = put a x (forwardAt + k) (forward a y k)
 
 -- The arena with the records of the head h up to `to` moved behind `from` at link k, and adjust k of h made v.
 unfoldable pub relinkOne : List ℕ → ℕ → ℕ → ℕ → ℕ → ℕ → List ℕ
 unfolding passOn
-relinkOne a h from to k v = put (passOn (passOn a from h k) h to k) h (11 + k) v
+relinkOne a h from to k v = put (passOn (passOn a from h k) h to k) h (adjustAt + k) v
 
 -- The records front ++ back of the head h, the open list cs of the head hc, and where the front is to be cut off and put: front has the links below n.
-pub record Relinkable (a : List ℕ) (h hc : ℕ) (cs front back cut sums cutc : List ℕ) (n : ℕ) : Type 0 where
+pub record Relinkable (a : List ℕ) (h hc : ℕ) (cs front back cut sums ends : List ℕ) (n : ℕ) : Type 0 where
   pub list : Linked a h (front ++ back)
   pub result : OpenLinked a hc cs
-  pub ends : CutC a hc cs cutc
+  pub result-ends : EndsOf a hc cs ends
   pub heads : h ≡ hc → ⊥
   pub head-away : Away h cs
   pub result-away : Away hc (front ++ back)
@@ -70,36 +49,36 @@ pub record Relinkable (a : List ℕ) (h hc : ℕ) (cs front back cut sums cutc :
   pub cut-at : (k : ℕ) → k < n → getD cut k 0 ≡ lastWith a k h front
   pub sums-long : n ≤ length sums
 
--- The front was moved, and cutd are the new ends of the open list.
-pub record Relinked (a b : List ℕ) (h hc : ℕ) (cs front back cut sums cutc cutd : List ℕ) (n : ℕ) : Type 0 where
+-- The front was moved, and ends' are the new ends of the open list.
+pub record Relinked (a b : List ℕ) (h hc : ℕ) (cs front back cut sums ends ends' : List ℕ) (n : ℕ) : Type 0 where
   pub length-kept : length b ≡ length a
   pub list : Linked b h back
   pub result : OpenLinked b hc (cs ++ front)
-  pub ends : CutC b hc (cs ++ front) cutd
-  pub replaced : (k : ℕ) → k < n → getD cutd k 0 ≡ getD cut k 0
+  pub result-ends : EndsOf b hc (cs ++ front) ends'
+  pub replaced : (k : ℕ) → k < n → getD ends' k 0 ≡ getD cut k 0
   pub level-kept : (x : ℕ) → level b x ≡ level a x
   pub m-kept : (x : ℕ) → mWord b x ≡ mWord a x
   pub p-kept : (x : ℕ) → pWord b x ≡ pWord a x
   pub adjust-kept : (x k : ℕ) → k < 8 → (x ≡ h → ⊥) → adjust b x k ≡ adjust a x k
   pub adjust-head : (k : ℕ) → k < n → adjust b h k ≡ getD sums k 0
   pub adjust-above : (k : ℕ) → n ≤ k → k < 8 → adjust b h k ≡ adjust a h k
-  pub outside : (x : ℕ) → (x ≡ h → ⊥) → ((k : ℕ) → k < n → x ≡ getD cutc k 0 → ⊥) → Same a b x
+  pub outside : (x : ℕ) → (x ≡ h → ⊥) → ((k : ℕ) → k < n → x ≡ getD ends k 0 → ⊥) → Same a b x
 
 -- Such a front of the head h is there, whichever it is, and it is moved.
 abbrev pub FrontReady : List ℕ → ℕ → List ℕ → List ℕ → List ℕ → ℕ → Type 0
-FrontReady a h cut sums cutc n =
-    (hc : ℕ) × (cs : List ℕ) × (front : List ℕ) × (back : List ℕ) × Relinkable a h hc cs front back cut sums cutc n
+FrontReady a h cut sums ends n =
+    (hc : ℕ) × (cs : List ℕ) × (front : List ℕ) × (back : List ℕ) × Relinkable a h hc cs front back cut sums ends n
 
-abbrev pub FrontMoved : (a b : List ℕ) (h : ℕ) (cut sums cutc cutd : List ℕ) (n : ℕ) → Type 0
-FrontMoved a b h cut sums cutc cutd n =
-    (hc : ℕ) (cs front back : List ℕ) → Relinkable a h hc cs front back cut sums cutc n → Relinked a b h hc cs front back cut sums cutc cutd n
+abbrev pub FrontMoved : (a b : List ℕ) (h : ℕ) (cut sums ends ends' : List ℕ) (n : ℕ) → Type 0
+FrontMoved a b h cut sums ends ends' n =
+    (hc : ℕ) (cs front back : List ℕ) → Relinkable a h hc cs front back cut sums ends n → Relinked a b h hc cs front back cut sums ends ends' n
 
 -- The open list was closed.
-pub record Closed (a b : List ℕ) (h : ℕ) (cs cutc : List ℕ) : Type 0 where
+pub record Closed (a b : List ℕ) (h : ℕ) (cs ends : List ℕ) : Type 0 where
   pub length-kept : length b ≡ length a
   pub list : Linked b h cs
   pub level-kept : (x : ℕ) → level b x ≡ level a x
   pub m-kept : (x : ℕ) → mWord b x ≡ mWord a x
   pub p-kept : (x : ℕ) → pWord b x ≡ pWord a x
   pub adjust-kept : (x k : ℕ) → k < 8 → adjust b x k ≡ adjust a x k
-  pub outside : (x : ℕ) → ((k : ℕ) → k < 8 → x ≡ getD cutc k 0 → ⊥) → Same a b x
+  pub outside : (x : ℕ) → ((k : ℕ) → k < 8 → x ≡ getD ends k 0 → ⊥) → Same a b x

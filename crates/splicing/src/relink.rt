@@ -5,6 +5,8 @@ ghost use lib.ListN.{length};
 ghost use Rattle.arena.specs.Chain.{Has};
 ghost use Rattle.arena.specs.Turning.{RenewedBelow};
 ghost use Rattle.splicing.specs.Open.{relinkOne, FrontReady, FrontMoved, lastSums, cutSums};
+use arena::words::ADJUST;
+use arena::words::FORWARD;
 use arena::words::get;
 use arena::words::store;
 
@@ -13,11 +15,11 @@ pub fn relink_one(arena: &mut [u32], head: usize, from: usize, to: usize, k: usi
     requires { ⌜ (k < 8) × Has (now arena) head × Has (now arena) from × Has (now arena) to ⌝ }
     ensures { λ _. ⌜ now (arena .exit) ≡ relinkOne (now (arena .entry)) head from to k v ⌝ }
 {
-    let first = get(arena, head, 3 + k);
-    store(arena, from, 3 + k, first);
-    let rest = get(arena, to, 3 + k);
-    store(arena, head, 3 + k, rest);
-    store(arena, head, 11 + k, v);
+    let first = get(arena, head, FORWARD + k);
+    store(arena, from, FORWARD + k, first);
+    let rest = get(arena, to, FORWARD + k);
+    store(arena, head, FORWARD + k, rest);
+    store(arena, head, ADJUST + k, v);
 }
 
 // Moves the records in front, whose last ones with each link below n are in `cut` and the adjusts that these had in
@@ -47,7 +49,7 @@ pub fn relink(
         relink_one(arena, head, ends[k], to, k, adjust);
         ends[k] = to;
         sums[k] = std::num::wrapping_add_u32(sums[i], adjust);
-        lasts[k] = std::num::wrapping_add_u32(lasts[i], get(arena, to, 11 + k));
+        lasts[k] = std::num::wrapping_add_u32(lasts[i], get(arena, to, ADJUST + k));
         i = k;
     }
     let to = cut[0];

@@ -4,8 +4,6 @@ use mathlib.Core.Path.{_≡_, sym, ap, subst, _∙_}
 use mathlib.Core.List.{List, _∷_, _++_}
 use Prim.Native.Nat.{ℕ, _+_, _^_, _≤_, _<_}
 use native.Mathlib.Omega.{arith}
-use lib.ListN.{length}
-use Rattle.slicing.specs.Recorded.{Recorded}
 use Rattle.arena.specs.Arena.{word, level, mWord, adjust}
 use Rattle.arena.specs.Chain.{Has, pUnder}
 use Rattle.arena.specs.Turning.{Summable}
@@ -16,33 +14,40 @@ use Rattle.dropping.proofs.DropLaws.{same-first, first-has}
 use Rattle.settling.specs.Cached.{Cached}
 use Rattle.moving.specs.Advance.{Movable, Moved, RunMoved}
 use Rattle.stepping.specs.Trio.{Kept}
-use Rattle.stepping.specs.Running.{Merging, Further, NewerReady, NewerDone}
+use Rattle.stepping.specs.Running.{Waiting, Task, Further, Both, waitingIn, NewerFirst, NewerReady, NewerDone}
 use Rattle.stepping.proofs.TrioLaws.{trio-swap, trio-movable}
 use Rattle.stepping.proofs.Steps.{newer-moves}
 use Rattle.stepping.proofs.Confined.{confined-swap, confined-moved}
 
 module _ (a : List ℕ) (ho hn v : ℕ) (ends : List ℕ) (p : NewerReady a ho hn ends) (e : v ≡ word a ho 3) where
-  same : v ≡ p .1
-  same = same-first a ho v (p .1) (p .2) (p .7 .waits .lists .older .linked) e
+  abbrev now : Both (p .0) a ho hn ends
+  now = p .1 .both
+
+  abbrev waits : Waiting a ho hn (p .0 .result) (now .r ∷ now .xs) (now .s ∷ now .ys) (now .cs) ends
+  waits = now .merging .runs .waits
+
+  same : v ≡ now .r
+  same = same-first a ho v (now .r) (now .xs) (waits .lists .older .linked) e
 
   pub newer-has : Has a v
-  newer-has = first-has a ho v (p .1, p .2, p .7 .waits .lists .older .linked) e
+  newer-has = first-has a ho v (now .r, now .xs, waits .lists .older .linked) e
 
-  pub newer-some : 1 ≤ level a v
-  newer-some = subst (λ (x : ℕ). 1 ≤ level a x) (sym same) (p .7 .waits .lists .older .linked .chain .0 .low)
+  newer-some : 1 ≤ level a v
+  newer-some = subst (λ (x : ℕ). 1 ≤ level a x) (sym same) (waits .lists .older .linked .chain .0 .low)
 
-  pub newer-low : level a v ≤ 8
-  newer-low = subst (λ (x : ℕ). level a x ≤ 8) (sym same) (p .7 .waits .lists .older .linked .chain .0 .high)
+  newer-low : level a v ≤ 8
+  newer-low = subst (λ (x : ℕ). level a x ≤ 8) (sym same) (waits .lists .older .linked .chain .0 .high)
 
   pub newer-room : (key : ℕ) → key ≡ word a v 1 → key + 1 < 2 ^ 32
-  newer-room key k = subst (λ (x : ℕ). x + 1 < 2 ^ 32) (sym (k ∙ ap (λ (x : ℕ). word a x 1) same)) (p .7 .waits .older-room .0 .small)
+  newer-room key k = subst (λ (x : ℕ). x + 1 < 2 ^ 32) (sym (k ∙ ap (λ (x : ℕ). word a x 1) same)) (waits .older-room .0 .small)
 
-  pub newer-movable : (key : ℕ) → key ≡ word a v 1 → Movable a hn (p .0) (key + 1) (p .5) (p .3) (p .4) ends
+  pub newer-movable : (key : ℕ) → key ≡ word a v 1 → Movable a hn (p .0 .result) (key + 1) (now .cs) (now .s) (now .ys) ends
   newer-movable key k =
-      let first : key ≡ mWord a (p .1) = k ∙ ap (λ (x : ℕ). word a x 1) same in
-      let less = p .8 in
-      trio-movable a hn ho (p .0) (key + 1) (p .3) (p .4) (p .1 ∷ p .2) (p .5) ends
-      (trio-swap a ho hn (p .0) (p .1 ∷ p .2) (p .3 ∷ p .4) (p .5) ends (p .7 .waits .lists)) (omega arith) (omega arith)
+      let first : key ≡ mWord a (now .r) = k ∙ ap (λ (x : ℕ). word a x 1) same in
+      let less = p .1 .order in
+      trio-movable a hn ho (p .0 .result) (key + 1) (now .s) (now .ys) (now .r ∷ now .xs) (now .cs) ends
+      (trio-swap a ho hn (p .0 .result) (now .r ∷ now .xs) (now .s ∷ now .ys) (now .cs) ends (waits .lists)) (omega arith)
+      (omega arith)
 
   -- The sums kept, before the run is moved and after it.
   module _ (olders newers lasts : List ℕ) (kept : Kept a ho hn ends olders newers lasts) where
@@ -54,43 +59,53 @@ module _ (a : List ℕ) (ho hn v : ℕ) (ends : List ℕ) (p : NewerReady a ho h
 
     pub newer-kept : (key : ℕ) → key ≡ word a v 1 → (b : List ℕ) (q : ℕ) (ends' : List ℕ) → RunMoved a b hn (key + 1) q ends ends' → (newers' lasts' : List ℕ) → Cached b hn ends' newers' lasts' → Kept b ho hn ends' olders newers' lasts'
     newer-kept key k b q ends' move newers' lasts' cached =
-        let lists = p .7 .waits .lists in
-        let d = move (p .0) (p .5) (p .3) (p .4) (newer-movable key k) in
-        let still = d .outside ho (λ e. lists .older-newer (sym e)) (λ e. lists .older-result (sym e)) (lists .older-off-result) (all-front (λ x. x ≡ ho → ⊥) a (key + 1) (p .3 ∷ p .4) (lists .older-off-newer)) in
+        let lists = waits .lists in
+        let d = move (p .0 .result) (now .cs) (now .s) (now .ys) (newer-movable key k) in
+        let still = d .outside ho (λ e. lists .older-newer (sym e)) (λ e. lists .older-result (sym e)) (lists .older-off-result) (all-front (λ x. x ≡ ho → ⊥) a (key + 1) (now .s ∷ now .ys) (lists .older-off-newer)) in
         record {
           older = suffixes-agree (adjust a ho) (adjust b ho) olders (λ i low high. still .at (11 + i) (omega arith)) (kept .older);
           newer = cached .head;
           ends = cached .ends;
         }
 
--- The step over plain values: r is the older list's first record.
-module _ (a₀ a b : List ℕ) (ho hn hc : ℕ) (xs₀ ys₀ : List ℕ) (r : ℕ) (xs : List ℕ) (s : ℕ) (ys cs ends ends' : List ℕ) (all : List Recorded) (g : Merging a₀ a ho hn hc xs₀ ys₀ (r ∷ xs) (s ∷ ys) cs ends all) (less : mWord a r < mWord a s) (d : Moved a b hn hc (pUnder a (adjust a ho) r) cs (front a (mWord a r + 1) (s ∷ ys)) (behind a (mWord a r + 1) (s ∷ ys)) ends') where
-  fewer : length (behind a (mWord a r + 1) (s ∷ ys)) < length (s ∷ ys)
-  fewer = behind-shorter a (mWord a r + 1) s ys (omega arith)
+-- The step over plain values: the run of the newer list was moved, in the words of the laws.
+module _ (t : Task) (a b : List ℕ) (ho hn : ℕ) (ends ends' : List ℕ) (w : NewerFirst t a ho hn ends) where
+  abbrev at : Both t a ho hn ends
+  at = w .both
 
-  pub newer-further : Further a₀ b ho hn hc xs₀ ys₀ ends' all (length (r ∷ xs) + length (s ∷ ys))
-  newer-further =
+  abbrev key : ℕ
+  key = mWord a (at .r) + 1
+
+  abbrev moves : Type 0
+  moves =
+      Moved a b hn (t .result) (pUnder a (adjust a ho) (at .r)) (at .cs) (front a key (at .s ∷ at .ys)) (behind a key (at .s ∷ at .ys)) ends'
+
+  newer-further : moves → Further t b ho hn ends' (waitingIn at)
+  newer-further d =
       record {
-        xs = r ∷ xs;
-        ys = behind a (mWord a r + 1) (s ∷ ys);
-        cs = cs ++ front a (mWord a r + 1) (s ∷ ys);
-        merging =
+        still =
             record {
-              runs = newer-moves a b ho hn hc r s xs ys cs ends ends' all (g .runs) d;
-              confined =
-                  confined-swap a₀ b hn ho hc ys₀ xs₀ (behind a (mWord a r + 1) (s ∷ ys)) (r ∷ xs) (cs ++ front a (mWord a r + 1) (s ∷ ys))
-                  (confined-moved a₀ a b hn ho hc (mWord a r + 1) (pUnder a (adjust a ho) r) s ys₀ xs₀ ys (r ∷ xs) cs ends'
-                  (confined-swap a₀ a ho hn hc xs₀ ys₀ (r ∷ xs) (s ∷ ys) cs (g .confined)) d);
+              xs = at .r ∷ at .xs;
+              ys = behind a key (at .s ∷ at .ys);
+              cs = at .cs ++ front a key (at .s ∷ at .ys);
+              merging =
+                  record {
+                    runs = newer-moves a b ho hn (t .result) (at .r) (at .s) (at .xs) (at .ys) (at .cs) ends ends' (t .all) (at .merging .runs) d;
+                    confined =
+                        confined-swap (t .arena) b hn ho (t .result) (t .newer) (t .older) (behind a key (at .s ∷ at .ys)) (at .r ∷ at .xs) (at .cs ++ front a key (at .s ∷ at .ys))
+                        (confined-moved (t .arena) a b hn ho (t .result) key (pUnder a (adjust a ho) (at .r)) (at .s) (t .newer) (t .older) (at .ys) (at .r ∷ at .xs) (at .cs) ends'
+                        (confined-swap (t .arena) a ho hn (t .result) (t .older) (t .newer) (at .r ∷ at .xs) (at .s ∷ at .ys) (at .cs) (at .merging .confined)) d);
+                  };
             };
-        fewer = let f = fewer in omega arith;
+        fewer = let f = behind-shorter a key (at .s) (at .ys) (let less = w .order in omega arith) in omega arith;
       }
 
 pub newer-done : (a b : List ℕ) (ho hn v key q : ℕ) (ends ends' : List ℕ) → v ≡ word a ho 3 → key ≡ word a v 1 → q ≡ pUnder a (adjust a ho) v
     → RunMoved a b hn (key + 1) q ends ends' → NewerDone a b ho hn ends ends'
-newer-done a b ho hn v key q ends ends' e k f move a₀ hc xs₀ ys₀ r xs s ys cs all g less =
-    let ready : NewerReady a ho hn ends = (hc, r, xs, s, ys, cs, all, g .runs, less) in
-    let same = same-first a ho v r xs (g .runs .waits .lists .older .linked) e in
-    let d = move hc cs s ys (newer-movable a ho hn v ends ready e key k) in
-    newer-further a₀ a b ho hn hc xs₀ ys₀ r xs s ys cs ends ends' all g less
-    (subst (λ (x : ℕ). Moved a b hn hc x cs (front a (mWord a r + 1) (s ∷ ys)) (behind a (mWord a r + 1) (s ∷ ys)) ends') (f ∙ ap (pUnder a (adjust a ho)) same)
-    (subst (λ (x : ℕ). Moved a b hn hc q cs (front a (x + 1) (s ∷ ys)) (behind a (x + 1) (s ∷ ys)) ends') (k ∙ ap (λ (x : ℕ). word a x 1) same) d))
+newer-done a b ho hn v key q ends ends' e k f move t w =
+    let at = w .both in
+    let same = same-first a ho v (at .r) (at .xs) (at .merging .runs .waits .lists .older .linked) e in
+    let d = move (t .result) (at .cs) (at .s) (at .ys) (newer-movable a ho hn v ends (t, w) e key k) in
+    newer-further t a b ho hn ends ends' w
+    (subst (λ (x : ℕ). Moved a b hn (t .result) x (at .cs) (front a (mWord a (at .r) + 1) (at .s ∷ at .ys)) (behind a (mWord a (at .r) + 1) (at .s ∷ at .ys)) ends') (f ∙ ap (pUnder a (adjust a ho)) same)
+    (subst (λ (x : ℕ). Moved a b hn (t .result) q (at .cs) (front a (x + 1) (at .s ∷ at .ys)) (behind a (x + 1) (at .s ∷ at .ys)) ends') (k ∙ ap (λ (x : ℕ). word a x 1) same) d))

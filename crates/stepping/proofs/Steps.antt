@@ -14,18 +14,17 @@ use Rattle.slicing.specs.Good.{Ordered}
 use Rattle.slicing.specs.Recorded.{Recorded, mergeRecorded, items}
 use Rattle.slicing.proofs.Batch.{raisedOlder, raisedNewer, leftAfter, batch-run, batch-newer}
 use Rattle.arena.specs.Arena.{level, mWord, adjust}
-use Rattle.arena.specs.Chain.{All, pUnder, after, trues, leaving}
+use Rattle.arena.specs.Chain.{growing, All, pUnder, after, trues, leaving}
 use Rattle.arena.specs.Lazy.{lastWith}
 use Rattle.arena.specs.Carried.{paired, carried}
 use Rattle.arena.proofs.Cases.{lt-or-ge}
 use Rattle.arena.proofs.ListLaws.{all-right, last-here, last-append}
-use Rattle.arena.proofs.Frames.{all-map}
+use Rattle.arena.proofs.Frames.{all-map, chain-low}
 use Rattle.arena.proofs.CarriedLaws.{trues-length, carried-cons, carried-append, carried-frame}
 use Rattle.searching.specs.Cut.{front, behind}
 use Rattle.searching.proofs.SearchLaws.{front-in}
 use Rattle.searching.proofs.CutLaws.{front-behind}
 use Rattle.dropping.specs.Dropping.{Dropped}
-use Rattle.splicing.specs.Open.{OpenChain}
 use Rattle.moving.specs.Advance.{Moved}
 use Rattle.stepping.specs.Trio.{Roomy}
 use Rattle.stepping.specs.Running.{Waiting, Running}
@@ -158,10 +157,6 @@ left-last a b z k h (x ∷ y ∷ rs) (p ∷ q ∷ ps) same e low some =
     left-last a b z k x (y ∷ rs) (q ∷ ps) same (omega arith) (low .1) (omega arith)
     ∙ ap (λ (t : ℕ). cond (eqb (mWord b t) (z .item .m)) k (z ∷ k)) (sym (last-here b 0 h x (y ∷ rs) (low .0)))
 
-open-low : (a rs : List ℕ) → OpenChain a rs → All (λ x. 1 ≤ level a x) rs
-open-low a [] c = tt
-open-low a (r ∷ rs) c = (c .0 .low, open-low a rs (c .1))
-
 -- A run of the older list was moved: its records have at least the m of the newer list's first, s.
 module _ (a b : List ℕ) (ho hn hc r s : ℕ) (xs ys cs ends ends' : List ℕ) (all : List Recorded) (run : Running a ho hn hc (r ∷ xs) (s ∷ ys) cs ends all) (tops : mWord a s ≤ mWord a r) (d : Moved a b ho hc (pUnder a (adjust a hn) s) cs (front a (mWord a s) (r ∷ xs)) (behind a (mWord a s) (r ∷ xs)) ends') where
   abbrev fr : List ℕ
@@ -221,7 +216,7 @@ module _ (a b : List ℕ) (ho hn hc r s : ℕ) (xs ys cs ends ends' : List ℕ) 
   unfolding carried
   left-after =
       left-last a b against later (lastWith b 0 hc cs) fr (trues a (adjust a ho) fr) (d .m-kept) (trues-length a (adjust a ho) fr)
-      (all-right (λ x. 1 ≤ level b x) cs fr (open-low b (cs ++ fr) (d .result .chain))) some-moved
+      (all-right (λ x. 1 ≤ level b x) cs fr (chain-low growing b (cs ++ fr) (d .result .chain))) some-moved
       ∙ ap (λ (t : ℕ). cond (eqb (mWord b t) (mWord a s)) later (against ∷ later)) (sym (last-append b 0 hc cs fr))
 
   abbrev waits-moved : Waiting b ho hn hc back (s ∷ ys) (cs ++ fr) ends'

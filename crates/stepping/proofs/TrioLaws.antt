@@ -15,7 +15,7 @@ use Rattle.searching.specs.Cut.{front, Falling, Searchable, behind}
 use Rattle.searching.proofs.SearchLaws.{falling-right}
 use Rattle.searching.proofs.CutLaws.{front-behind, all-front, all-behind}
 use Rattle.dropping.specs.Dropping.{Dropped}
-use Rattle.splicing.proofs.OpenLaws.{ends-frame, open-frame}
+use Rattle.splicing.proofs.OpenLaws.{ends-frame}
 use Rattle.moving.specs.Advance.{Movable, Moved}
 use Rattle.stepping.specs.Trio.{Trio}
 
@@ -48,7 +48,7 @@ trio-movable a ho hn hc key r xs ys cs ends t some h =
       some = some;
       first = h;
       result = t .result;
-      ends = t .result-ends;
+      result-ends = t .result-ends;
       heads = t .older-result;
       head-away = t .older-off-result;
       result-away = t .result-off-older;
@@ -128,7 +128,7 @@ module _ (a b : List ℕ) (ho hn hc key q r : ℕ) (xs ys cs ends ends' : List �
             };
         newer = left-alone a b hn ys (d .length-kept) (d .m-kept) newer-head newer-records (t .newer);
         result = d .result;
-        result-ends = d .ends;
+        result-ends = d .result-ends;
         older-newer = t .older-newer;
         older-result = t .older-result;
         newer-result = t .newer-result;
@@ -173,7 +173,7 @@ module _ (a b : List ℕ) (ho hn hc y : ℕ) (xs ys cs ends : List ℕ) (t : Tri
               floor = d .m-kept 0 ∙ t .newer .floor;
             };
         result =
-            open-frame a b hc cs (d .length-kept) (same-shape a b hc result-head)
+            linked-frame a b hc cs (d .length-kept) (same-shape a b hc result-head)
             (all-map cs (λ x e. same-shape a b x e) (same-of cs (t .newer-off-result))) (t .result);
         result-ends = ends-frame a b hc cs ends (all-map cs (λ x e. e .at 0 (omega arith)) (same-of cs (t .newer-off-result))) (t .result-ends);
         older-newer = t .older-newer;

@@ -33,33 +33,65 @@ pub record Confined (a₀ a : List ℕ) (ho hn hc : ℕ) (xs₀ ys₀ xs ys cs :
   pub records : (x : ℕ) → Away x xs₀ → Away x ys₀ → Away x xs × Away x ys × Away x cs
   pub outside : (x : ℕ) → (ho ≡ x → ⊥) → (hn ≡ x → ⊥) → (hc ≡ x → ⊥) → Away x xs₀ → Away x ys₀ → Same a₀ a x
 
--- A merge on its way: what waits, what is finished, and what it has left alone.
-pub record Merging (a₀ a : List ℕ) (ho hn hc : ℕ) (xs₀ ys₀ xs ys cs ends : List ℕ) (all : List Recorded) : Type 0 where
-  pub runs : Running a ho hn hc xs ys cs ends all
-  pub confined : Confined a₀ a ho hn hc xs₀ ys₀ xs ys cs
+-- What a merge is to do: the arena that it began in, the head of the result, the two lists that it began with, and the whole list that it is to give.
+pub record Task : Type 0 where
+  pub arena : List ℕ
+  pub result : ℕ
+  pub older : List ℕ
+  pub newer : List ℕ
+  pub all : List Recorded
 
--- It is on its way with fewer than n records that wait.
-pub record Further (a₀ a : List ℕ) (ho hn hc : ℕ) (xs₀ ys₀ ends : List ℕ) (all : List Recorded) (n : ℕ) : Type 0 where
+-- A merge on its way: what waits, what is finished, and what it has left alone.
+pub record Merging (t : Task) (a : List ℕ) (ho hn : ℕ) (xs ys cs ends : List ℕ) : Type 0 where
+  pub runs : Running a ho hn (t .result) xs ys cs ends (t .all)
+  pub confined : Confined (t .arena) a ho hn (t .result) (t .older) (t .newer) xs ys cs
+
+-- It is on its way, whatever its lists are.
+pub record Underway (t : Task) (a : List ℕ) (ho hn : ℕ) (ends : List ℕ) : Type 0 where
   pub xs : List ℕ
   pub ys : List ℕ
   pub cs : List ℕ
-  pub merging : Merging a₀ a ho hn hc xs₀ ys₀ xs ys cs ends all
-  pub fewer : length xs + length ys < n
+  pub merging : Merging t a ho hn xs ys cs ends
+
+-- It is, with fewer than n records that wait.
+pub record Further (t : Task) (a : List ℕ) (ho hn : ℕ) (ends : List ℕ) (n : ℕ) : Type 0 where
+  pub still : Underway t a ho hn ends
+  pub fewer : length (still .xs) + length (still .ys) < n
+
+-- It is, and both lists have a record: r is the first of the older list, and s of the newer.
+pub record Both (t : Task) (a : List ℕ) (ho hn : ℕ) (ends : List ℕ) : Type 0 where
+  pub r : ℕ
+  pub xs : List ℕ
+  pub s : ℕ
+  pub ys : List ℕ
+  pub cs : List ℕ
+  pub merging : Merging t a ho hn (r ∷ xs) (s ∷ ys) cs ends
+
+-- The records that wait then.
+abbrev pub waitingIn : {t : Task} {a : List ℕ} {ho hn : ℕ} {ends : List ℕ} → Both t a ho hn ends → ℕ
+waitingIn w = length (w .r ∷ w .xs) + length (w .s ∷ w .ys)
 
 -- The older list's first m is smaller than the newer's.
+pub record NewerFirst (t : Task) (a : List ℕ) (ho hn : ℕ) (ends : List ℕ) : Type 0 where
+  pub both : Both t a ho hn ends
+  pub order : mWord a (both .r) < mWord a (both .s)
+
+-- It is at least the newer's.
+pub record OlderFirst (t : Task) (a : List ℕ) (ho hn : ℕ) (ends : List ℕ) : Type 0 where
+  pub both : Both t a ho hn ends
+  pub order : mWord a (both .s) ≤ mWord a (both .r)
+
+-- A step of either list asks for such a merge, and brings each such merge further.
 abbrev pub NewerReady : List ℕ → ℕ → ℕ → List ℕ → Type 0
-NewerReady a ho hn ends =
-    (hc : ℕ) × (r : ℕ) × (xs : List ℕ) × (s : ℕ) × (ys : List ℕ) × (cs : List ℕ) × (all : List Recorded) × Running a ho hn hc (r ∷ xs) (s ∷ ys) cs ends all × (mWord a r < mWord a s)
+NewerReady a ho hn ends = (t : Task) × NewerFirst t a ho hn ends
 
 abbrev pub NewerDone : (a b : List ℕ) (ho hn : ℕ) (ends ends' : List ℕ) → Type 0
 NewerDone a b ho hn ends ends' =
-    (a₀ : List ℕ) (hc : ℕ) (xs₀ ys₀ : List ℕ) (r : ℕ) (xs : List ℕ) (s : ℕ) (ys cs : List ℕ) (all : List Recorded) → Merging a₀ a ho hn hc xs₀ ys₀ (r ∷ xs) (s ∷ ys) cs ends all → mWord a r < mWord a s → Further a₀ b ho hn hc xs₀ ys₀ ends' all (length (r ∷ xs) + length (s ∷ ys))
+    (t : Task) (w : NewerFirst t a ho hn ends) → Further t b ho hn ends' (waitingIn (w .both))
 
--- The older list's first m is at least the newer's.
 abbrev pub OlderReady : List ℕ → ℕ → ℕ → List ℕ → Type 0
-OlderReady a ho hn ends =
-    (hc : ℕ) × (r : ℕ) × (xs : List ℕ) × (s : ℕ) × (ys : List ℕ) × (cs : List ℕ) × (all : List Recorded) × Running a ho hn hc (r ∷ xs) (s ∷ ys) cs ends all × (mWord a s ≤ mWord a r)
+OlderReady a ho hn ends = (t : Task) × OlderFirst t a ho hn ends
 
 abbrev pub OlderDone : (a b : List ℕ) (ho hn : ℕ) (ends ends' : List ℕ) → Type 0
 OlderDone a b ho hn ends ends' =
-    (a₀ : List ℕ) (hc : ℕ) (xs₀ ys₀ : List ℕ) (r : ℕ) (xs : List ℕ) (s : ℕ) (ys cs : List ℕ) (all : List Recorded) → Merging a₀ a ho hn hc xs₀ ys₀ (r ∷ xs) (s ∷ ys) cs ends all → mWord a s ≤ mWord a r → Further a₀ b ho hn hc xs₀ ys₀ ends' all (length (r ∷ xs) + length (s ∷ ys))
+    (t : Task) (w : OlderFirst t a ho hn ends) → Further t b ho hn ends' (waitingIn (w .both))

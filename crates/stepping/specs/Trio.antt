@@ -6,7 +6,7 @@ use Rattle.arena.specs.Arena.{mWord, adjust}
 use Rattle.arena.specs.Chain.{All, Away}
 use Rattle.arena.specs.Turning.{Suffixes}
 use Rattle.searching.specs.Cut.{Searchable}
-use Rattle.splicing.specs.Open.{OpenLinked, CutC, lastSums}
+use Rattle.splicing.specs.Open.{OpenLinked, EndsOf, lastSums}
 
 -- The m of a record is 1 or more, and with 1 added it does not leave 32 bits.
 pub record Roomy (a : List ℕ) (x : ℕ) : Type 0 where
@@ -18,7 +18,7 @@ pub record Trio (a : List ℕ) (ho hn hc : ℕ) (xs ys cs ends : List ℕ) : Typ
   pub older : Searchable a ho xs
   pub newer : Searchable a hn ys
   pub result : OpenLinked a hc cs
-  pub result-ends : CutC a hc cs ends
+  pub result-ends : EndsOf a hc cs ends
   pub older-newer : ho ≡ hn → ⊥
   pub older-result : ho ≡ hc → ⊥
   pub newer-result : hn ≡ hc → ⊥

@@ -1,7 +1,10 @@
 // The step of the merge that moves a run of the newer list.
 ghost use Rattle.stepping.specs.Trio.{Kept};
 ghost use Rattle.stepping.specs.Running.{NewerReady, NewerDone};
+use crate::SECOND;
 use arena::sums::true_p;
+use arena::words::FORWARD;
+use arena::words::M;
 use arena::words::get;
 use arena::words::wide;
 use moving::linked_run::linked_run;
@@ -24,10 +27,10 @@ pub fn newer_step(
     ensures { λ _. ⌜ NewerDone (now (arena .entry)) (now (arena .exit)) older newer (now (ends .entry)) (now (ends .exit)) ⌝ }
     ensures { λ _. ⌜ Kept (now (arena .exit)) older newer (now (ends .exit)) (now (olders .exit)) (now (newers .exit)) (now (lasts .exit)) ⌝ }
 {
-    let r = wide(get(arena, older, 3));
-    let key = get(arena, r, 1) + 1;
+    let r = wide(get(arena, older, FORWARD));
+    let key = get(arena, r, M) + 1;
     let q = true_p(arena, r, olders);
-    let second = wide(get(arena, newer, 4));
+    let second = wide(get(arena, newer, SECOND));
     if may_pass(arena, second, key) {
         linked_run(arena, newer, key, q, ends, newers, lasts);
     } else {

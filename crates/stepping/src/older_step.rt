@@ -1,7 +1,10 @@
 // The step of the merge that moves a run of the older list.
 ghost use Rattle.stepping.specs.Trio.{Kept};
 ghost use Rattle.stepping.specs.Running.{OlderReady, OlderDone};
+use crate::SECOND;
 use arena::sums::true_p;
+use arena::words::FORWARD;
+use arena::words::M;
 use arena::words::get;
 use arena::words::wide;
 use dropping::drop_tied::drop_tied;
@@ -26,10 +29,10 @@ pub fn older_step(
     ensures { λ _. ⌜ OlderDone (now (arena .entry)) (now (arena .exit)) older newer (now (ends .entry)) (now (ends .exit)) ⌝ }
     ensures { λ _. ⌜ Kept (now (arena .exit)) older newer (now (ends .exit)) (now (olders .exit)) (now (newers .exit)) (now (lasts .exit)) ⌝ }
 {
-    let s = wide(get(arena, newer, 3));
-    let key = get(arena, s, 1);
+    let s = wide(get(arena, newer, FORWARD));
+    let key = get(arena, s, M);
     let q = true_p(arena, s, newers);
-    let second = wide(get(arena, older, 4));
+    let second = wide(get(arena, older, SECOND));
     if may_pass(arena, second, key) {
         linked_run(arena, older, key, q, ends, olders, lasts);
         drop_tied(arena, newer, s, ends[0], key, newers);

@@ -42,7 +42,7 @@ add-get : tie.Need-add-get Inv-loop μ-loop
 add-get c = search needs
 
 get-requires : tie.Need-get-requires Inv-loop μ-loop
-get-requires c κs = (ready-cut _ _ _ _ _ _ _ (c .before .before .before .before .before .before .pre .3), search needs)
+get-requires c κs = (ready-cut _ _ _ _ _ _ (c .before .before .before .before .before .before .pre .3), search needs)
 
 wide-requires : tie.Need-wide-requires Inv-loop μ-loop
 wide-requires c κs = search needs

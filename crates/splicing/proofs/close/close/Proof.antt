@@ -7,10 +7,10 @@ use Rattle.splicing.proofs.close.close.Statement.{statement}
 use Rattle.splicing.proofs.close.close.Tie as tie
 
 abbrev Inv-loop : tie.InvT-loop
-Inv-loop arena₀ cutc k₀ arena k = Closing arena₀ arena cutc k
+Inv-loop arena₀ ends k₀ arena k = Closing arena₀ arena ends k
 
 abbrev μ-loop : tie.MeasureT-loop
-μ-loop arena₀ cutc k₀ arena k = 8 - k
+μ-loop arena₀ ends k₀ arena k = 8 - k
 
 loop-holds : tie.Need-loop-holds Inv-loop μ-loop
 loop-holds c = search (needs, closing-start)

@@ -82,7 +82,7 @@ slice-read-drop-tied : tie.Need-slice-read-drop-tied
 slice-read-drop-tied c =
     let at-run = c .before .before .before .before .before .before .before .before .before .before in
     let q = at-q (at-run .before .before .before .before .before .before) in
-    let long = older-moved _ _ _ _ _ (start q .pre .0) (is-first (at-first q)) _ (at-key q .get2 .ensures) _ _ _ (q-is q) (at-run .linked-run .ensures .0) .ends .long in
+    let long = older-moved _ _ _ _ _ (start q .pre .0) (is-first (at-first q)) _ (at-key q .get2 .ensures) _ _ _ (q-is q) (at-run .linked-run .ensures .0) .result-ends .long in
     omega arith
 
 drop-tied-requires : tie.Need-drop-tied-requires
@@ -102,7 +102,7 @@ slice-read-drop-tied-2 : tie.Need-slice-read-drop-tied-2
 slice-read-drop-tied-2 c =
     let at-run = c .before .before .before .before .before .before in
     let q = at-q (at-run .before .before .before .before .before .before) in
-    let long = older-moved _ _ _ _ _ (start q .pre .0) (is-first (at-first q)) _ (at-key q .get2 .ensures) _ _ _ (q-is q) (at-run .walk-run .ensures .0) .ends .long in
+    let long = older-moved _ _ _ _ _ (start q .pre .0) (is-first (at-first q)) _ (at-key q .get2 .ensures) _ _ _ (q-is q) (at-run .walk-run .ensures .0) .result-ends .long in
     omega arith
 
 drop-tied-requires-2 : tie.Need-drop-tied-requires-2
