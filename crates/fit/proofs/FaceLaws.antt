@@ -30,7 +30,7 @@ use Rattle.picking.proofs.Looking.{product-low}
 use Rattle.laying.specs.Laying.{shapeAt, Layable, laid}
 use Rattle.laying.proofs.StretchLaws.{stretch-ready, stretch-list, stretch-count, stretch-facing}
 use Rattle.laying.proofs.ShapeReading.{Place, shape-low}
-use Rattle.laying.proofs.LayLaws.{Word, root-layable}
+use Rattle.laying.proofs.LayLaws.{Word, Ready, Lays, root-layable}
 use Rattle.fit.specs.declared.Fitted.{Fitted}
 use Rattle.fit.specs.Fitting.{noFace, faceFound, faceWords}
 use Rattle.fit.specs.Facing.{Placeable, PlacedIn}
@@ -87,7 +87,7 @@ module _ {file s z : List ℕ} {root high wide : ℕ} {a : Stretch} {found : Boo
         (subst (λ (n : ℕ). Layable z root (p .tree) n at 0 0 old) (sym (p .gauges-is))
         (root-layable z root (p .tree) at old (chosen .filled (p .tree) (p .face) .stored) (face-taken file (p .tree) (p .face) .good) (in-list (p .tree) (p .face)) (p .room)))
 
-    pub face-lays : (t : Tree) × Layable z root t gauges at 0 0 old
+    pub face-lays : Ready z root gauges at 0 0 old
     face-lays = (p .tree, layable (p .tree) (p .face))
 
     pub face-counts : a .count < 2 ^ 32
@@ -98,7 +98,10 @@ module _ {file s z : List ℕ} {root high wide : ℕ} {a : Stretch} {found : Boo
         let most = face .most in
         omega arith
 
-    pub face-done : {word m q : ℕ} {output : List ℕ} → Word z root at word → m ≡ word / 65_536 → q ≡ word % 65_536 → ((t : Tree) → Layable z root t gauges at 0 0 old → output ≡ laid t at 0 0 old) → PlacedIn file (outline high wide) (record { number = 0; height = m; width = q; area = m * q; count = a .count }) old output
+    pub face-done : {word m q : ℕ} {output : List ℕ}
+        → Word z root at word → m ≡ word / 65_536 → q ≡ word % 65_536
+        → Lays z root gauges at 0 0 old output
+        → PlacedIn file (outline high wide) (record { number = 0; height = m; width = q; area = m * q; count = a .count }) old output
     unfolding PlacedIn laid writtenOver
     face-done {word} {m} {q} read m-read q-read lay t e =
         let v = shapeAt t at in

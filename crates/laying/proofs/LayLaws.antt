@@ -12,7 +12,7 @@ use Rattle.slicing.specs.Item.{Item, size, height, width}
 use Rattle.slicing.specs.Tree.{Tree, gauge, beside, stacked, gaugeCount}
 use Rattle.slicing.specs.Good.{Good}
 use Rattle.slicing.specs.Shapes.{shapes}
-use Rattle.slicing.specs.Fit.{noTaller, place, words}
+use Rattle.slicing.specs.Fit.{noTaller, place}
 use Rattle.slicing.proofs.Depths.{depth-few}
 use Rattle.slicing.proofs.Placing.{words-length}
 use Rattle.stored.specs.Packed.{pack, facing}
@@ -25,7 +25,7 @@ use Rattle.stored.proofs.OwnLists.{entry-of}
 use Rattle.laying.proofs.StretchLaws.{table-inside}
 use Rattle.laying.proofs.TakeLaws.{Side}
 use Rattle.laying.proofs.ShapeReading.{Place, shape-low}
-use Rattle.laying.proofs.JoinLaws.{side, View, Edges, edges}
+use Rattle.laying.proofs.JoinLaws.{side, wordsOf, View, Edges, edges}
 
 -- The word of the item at the place of the part's list.
 abbrev pub Word : List ℕ → ℕ → ℕ → ℕ → Type 0
@@ -61,6 +61,10 @@ two-parts first second out one two m n e f g h =
 abbrev pub Ready : List ℕ → ℕ → ℕ → ℕ → ℕ → ℕ → List ℕ → Type 0
 Ready s part gauges k x y out = (t : Tree) × Layable s part t gauges k x y out
 
+-- Any such part, laid out, leaves the output as `last`.
+abbrev pub Lays : List ℕ → ℕ → ℕ → ℕ → ℕ → ℕ → List ℕ → List ℕ → Type 0
+Lays s part gauges k x y out last = (t : Tree) → Layable s part t gauges k x y out → last ≡ laid t k x y out
+
 module _ {s : List ℕ} {part gauges k x y : ℕ} {out : List ℕ} where
   pub ready-inside : Ready s part gauges k x y out → 4 * part + 3 < length s
   ready-inside pre = table-inside s part (pre .0) (pre .1 .stored)
@@ -82,7 +86,7 @@ module _ {s : List ℕ} {part gauges k x y : ℕ} {out : List ℕ} where
     pub gauge-room : Ready s part gauges k x y out → (5 ≤ length out) × (k + 1 < 2 ^ 32)
     gauge-room pre = gauge-fits (pre .0) (pre .1)
 
-    pub gauge-laid : {z : ℕ} {last : List ℕ} → Word s part k z → last ≡ (k + 1) ∷ x ∷ y ∷ (z % 65_536) ∷ (z / 65_536) ∷ drop 5 out → (t : Tree) → Layable s part t gauges k x y out → last ≡ laid t k x y out
+    pub gauge-laid : {z : ℕ} {last : List ℕ} → Word s part k z → last ≡ (k + 1) ∷ x ∷ y ∷ (z % 65_536) ∷ (z / 65_536) ∷ drop 5 out → Lays s part gauges k x y out last
     unfolding shapes laid place
     gauge-laid {z} {last} word written (gauge sizes) h =
         let item = getD sizes k (size 0 0) in
@@ -218,7 +222,8 @@ module _ {s : List ℕ} {part gauges k x y : ℕ} {out : List ℕ} {upward : Boo
       the-edges t h v =
           let r = took t h v in
           subst (λ (n : ℕ). Edges upward (shapeAt (v .a) ka) (shapeAt (v .b) kb) n x y) (sym (r .extent))
-          (edges upward (shapeAt t k) (side upward (shapeAt t k) (v .a)) (side upward (shapeAt t k) (v .b)) (shapeAt (v .a) ka) (shapeAt (v .b) kb) x y (r .side-a) (r .side-b) (v .both .m-is) (v .both .p-is) (h .across) (h .up))
+          (edges upward (shapeAt t k) (side upward (shapeAt t k) (v .a)) (side upward (shapeAt t k) (v .b)) (shapeAt (v .a) ka) (shapeAt (v .b) kb) x y
+          (r .side-a) (r .side-b) (v .both .m-is) (v .both .p-is) (h .across) (h .up))
 
       pub right-fits : movedBy (not upward) x ea < 2 ^ 32
       right-fits = the-edges (j .ready .0) (j .ready .1) the-view .right
@@ -254,7 +259,8 @@ module _ {s : List ℕ} {part gauges k x y : ℕ} {out : List ℕ} {upward : Boo
               good = v .good-b;
               gauges-is = rest-is t v;
               in-list = took t h v .in-b;
-              room = omega (arith, h .room, h .gauges-is, rest-is t v, v .count, length-take (length one - 5 * (gauges - rest)) (drop (5 * (gauges - rest)) one), length-drop (5 * (gauges - rest)) one);
+              room =
+                  omega (arith, h .room, h .gauges-is, rest-is t v, v .count, length-take (length one - 5 * (gauges - rest)) (drop (5 * (gauges - rest)) one), length-drop (5 * (gauges - rest)) one);
               across = subst (λ (n : ℕ). n + width (shapeAt (v .b) kb) < 2 ^ 32) (sym right-is) (e .b-across);
               up = subst (λ (n : ℕ). n + height (shapeAt (v .b) kb) < 2 ^ 32) (sym above-is) (e .b-up);
             }
@@ -264,7 +270,7 @@ module _ {s : List ℕ} {part gauges k x y : ℕ} {out : List ℕ} {upward : Boo
             let n = counts in
             (omega arith, (the-view .b, newer-layable (j .ready .0) (j .ready .1) the-view))
 
-        both-words : (t : Tree) → Layable s part t gauges k x y out → (v : View s part upward t k x y) → words (v .a) (place 0 (v .a) (shapeAt (v .a) ka) x y) ++ words (v .b) (place 0 (v .b) (shapeAt (v .b) kb) right above) ≡ words t (place 0 t (shapeAt t k) x y)
+        both-words : (t : Tree) → Layable s part t gauges k x y out → (v : View s part upward t k x y) → wordsOf (v .a) (shapeAt (v .a) ka) x y ++ wordsOf (v .b) (shapeAt (v .b) kb) right above ≡ wordsOf t (shapeAt t k) x y
         both-words t h v =
             let r = took t h v in
             let same-a = ap (facingItem upward) (r .side-a) ∙ facing-back upward (shapeAt (v .a) ka) in
@@ -273,15 +279,21 @@ module _ {s : List ℕ} {part gauges k x y : ℕ} {out : List ℕ} {upward : Boo
             let same-above = above-is ∙ ap (movedBy upward y) (r .extent) in
             rw (← same-a, ← same-b, same-right, same-above) (sym (v .whole))
 
-        pub join-laid : {two : List ℕ} → ((t : Tree) → Layable s (part - 2 * rest) t (gauges - rest) ka x y out → one ≡ laid t ka x y out) → ((t : Tree) → Layable s (part - 1) t rest kb right above (restFrom (5 * (gauges - rest)) one) → two ≡ laid t kb right above (restFrom (5 * (gauges - rest)) one)) → (t : Tree) → Layable s part t gauges k x y out → putMid (5 * (gauges - rest)) (length one - 5 * (gauges - rest)) one two ≡ laid t k x y out
+        pub join-laid : {two : List ℕ}
+            → Lays s (part - 2 * rest) (gauges - rest) ka x y out one
+            → Lays s (part - 1) rest kb right above (restFrom (5 * (gauges - rest)) one) two
+            → Lays s part gauges k x y out (putMid (5 * (gauges - rest)) (length one - 5 * (gauges - rest)) one two)
         unfolding laid
         join-laid {two} did-a did-b t h =
             let v = j .seen t h in
-            let wa = words (v .a) (place 0 (v .a) (shapeAt (v .a) ka) x y) in
-            let wb = words (v .b) (place 0 (v .b) (shapeAt (v .b) kb) right above) in
+            let wa = wordsOf (v .a) (shapeAt (v .a) ka) x y in
+            let wb = wordsOf (v .b) (shapeAt (v .b) kb) right above in
             let few : 5 * gaugeCount (v .a) ≡ 5 * (gauges - rest) = omega (arith, rest-is t v, h .gauges-is, v .count) in
             let all : 5 * (gauges - rest) + 5 * gaugeCount (v .b) ≡ 5 * gaugeCount t = omega (arith, v .count) in
+            let long-a : length wa ≡ 5 * (gauges - rest) = words-length (v .a) (place 0 (v .a) (shapeAt (v .a) ka) x y) ∙ few in
+            let long-b = words-length (v .b) (place 0 (v .b) (shapeAt (v .b) kb) right above) in
             let first : one ≡ wa ++ drop (5 * (gauges - rest)) out = subst (λ (n : ℕ). one ≡ wa ++ drop n out) few (did-a (v .a) (older-layable t h v)) in
-            two-parts wa wb out one two (5 * (gauges - rest)) (5 * gaugeCount (v .b)) (words-length (v .a) (place 0 (v .a) (shapeAt (v .a) ka) x y) ∙ few) (words-length (v .b) (place 0 (v .b) (shapeAt (v .b) kb) right above)) first (did-b (v .b) (newer-layable t h v))
+            let second = did-b (v .b) (newer-layable t h v) in
+            two-parts wa wb out one two (5 * (gauges - rest)) (5 * gaugeCount (v .b)) long-a long-b first second
             ∙ ap (λ (l : List ℕ). l ++ drop (5 * (gauges - rest) + 5 * gaugeCount (v .b)) out) (both-words t h v)
-            ∙ ap (λ (n : ℕ). words t (place 0 t (shapeAt t k) x y) ++ drop n out) all
+            ∙ ap (λ (n : ℕ). wordsOf t (shapeAt t k) x y ++ drop n out) all

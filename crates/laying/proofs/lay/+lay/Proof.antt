@@ -1,5 +1,6 @@
 -- `laying::lay::lay` meets its contract.
 -- The measure is the number of gauges, which each part has fewer of. A gauge's words are written at once; at a join each part takes its item and lays itself out, the newer in the stretch after the older's words.
+use mathlib.Core.List.{List}
 use Prim.Native.Nat.{ℕ, _<_}
 use native.Mathlib.Omega.{arith}
 use lib.Dec.{eqb}
@@ -85,7 +86,9 @@ module _ (t : ℕ) where
     abbrev start : lay-lts.Start calls asked lay.Post
     start = at-item .before .before .before .before
 
-    join : Join (start .args .scratch .now) (start .args .part) (start .args .gauges) (start .args .place) (start .args .x) (start .args .y) (start .args .out .now) (eqb (at-item .before .part-word .result) 3) (at-item .item-at .result) (c .along .result)
+    join :
+        Join (start .args .scratch .now) (start .args .part) (start .args .gauges) (start .args .place) (start .args .x) (start .args .y) (start .args .out .now)
+        (eqb (at-item .before .part-word .result) 3) (at-item .item-at .result) (c .along .result)
     join =
         record {
           ready = start .pre .1;
@@ -145,6 +148,9 @@ module _ (t : ℕ) where
     abbrev at-rest : lay-lts.After-part-word2 calls asked lay.Post
     at-rest = at-newer .before .before
 
+    abbrev older-out : List ℕ
+    older-out = c .lay .last .1 .1 .1 .1 .1 .1 .0
+
   mul-lay : lay-lts.Need-mul-lay calls asked lay.Post
   mul-lay c = let n = counted (at-rest (c .before .before)) in search needs
 
@@ -164,7 +170,10 @@ module _ (t : ℕ) where
   lay-requires-2 c κs =
       let at-lay = c .before .before .before in
       let at-join = at-rest at-lay .before in
-      lay-newer (join at-join) (at-rest at-lay .part-word2 .ensures) (at-newer at-lay .before .take-item .ensures) (at-newer at-lay .take-item2 .ensures) (at-above at-lay .before .moved .ensures) (at-above at-lay .moved2 .ensures) (at-lay .lay .last .1 .1 .1 .1 .1 .1 .0) (at-lay .lay .kept .1 .1 .1 .1 .1 .1 .0) (start at-join .pre .0)
+      lay-newer (join at-join) (at-rest at-lay .part-word2 .ensures)
+      (at-newer at-lay .before .take-item .ensures) (at-newer at-lay .take-item2 .ensures)
+      (at-above at-lay .before .moved .ensures) (at-above at-lay .moved2 .ensures)
+      (older-out at-lay) (at-lay .lay .kept .1 .1 .1 .1 .1 .1 .0) (start at-join .pre .0)
 
   same-length-2 : lay-lts.Need-same-length-2 calls asked lay.Post
   same-length-2 c = search needs
@@ -172,7 +181,10 @@ module _ (t : ℕ) where
   returns-2 : lay-lts.Need-returns-2 calls asked lay.Post
   returns-2 c =
       let at-lay = c .before .before .before .before .before .before in
-      join-laid (join (at-rest at-lay .before)) (at-rest at-lay .part-word2 .ensures) (at-newer at-lay .before .take-item .ensures) (at-newer at-lay .take-item2 .ensures) (at-above at-lay .before .moved .ensures) (at-above at-lay .moved2 .ensures) (at-lay .lay .last .1 .1 .1 .1 .1 .1 .0) (at-lay .lay .kept .1 .1 .1 .1 .1 .1 .0) (at-lay .lay .ensures) (c .before .before .lay2 .ensures)
+      join-laid (join (at-rest at-lay .before)) (at-rest at-lay .part-word2 .ensures)
+      (at-newer at-lay .before .take-item .ensures) (at-newer at-lay .take-item2 .ensures)
+      (at-above at-lay .before .moved .ensures) (at-above at-lay .moved2 .ensures)
+      (older-out at-lay) (at-lay .lay .kept .1 .1 .1 .1 .1 .1 .0) (at-lay .lay .ensures) (c .before .before .lay2 .ensures)
 
 pub +lay-spec : {M : Type 1} → statement M
 +lay-spec =
