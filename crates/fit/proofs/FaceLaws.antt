@@ -30,7 +30,7 @@ use Rattle.picking.proofs.Looking.{product-low}
 use Rattle.laying.specs.Laying.{shapeAt, Layable, laid}
 use Rattle.laying.proofs.StretchLaws.{stretch-ready, stretch-list, stretch-count, stretch-facing}
 use Rattle.laying.proofs.ShapeReading.{Place, shape-low}
-use Rattle.laying.proofs.LayLaws.{Word, Ready, Lays, root-layable}
+use Rattle.laying.proofs.GaugeLaws.{Word, Ready, Lays, root-layable}
 use Rattle.fit.specs.declared.Fitted.{Fitted}
 use Rattle.fit.specs.Fitting.{noFace, faceFound, faceWords}
 use Rattle.fit.specs.Facing.{Placeable, PlacedIn}

@@ -9,8 +9,9 @@ use borrow.Author.Needs.{needs}
 use borrow.Fn.Kinds.{In}
 use borrow.Fn.PlainCycle.{Measures, is, falls, and}
 use Rattle.stored.proofs.table.part_word.Reads as part-word-reads
+use Rattle.laying.proofs.GaugeLaws.{ready-inside, ready-item, gauge-room, gauge-laid}
 use Rattle.laying.proofs.JoinLaws.{view}
-use Rattle.laying.proofs.LayLaws.{ready-inside, ready-item, gauge-room, gauge-laid, Join, join-some, newer-inside, Counts, counts, older-takes, newer-takes, right-fits, above-fits, lay-older, lay-newer, join-laid}
+use Rattle.laying.proofs.LayLaws.{Join, join-some, newer-inside, Counts, counts, older-takes, newer-takes, right-fits, above-fits, lay-older, lay-newer, join-laid}
 use Rattle.laying.proofs.lay.lay.Reads as lay
 use Rattle.laying.proofs.lay.lay.Kinds as lay-kinds
 use Rattle.laying.proofs.lay.+lay.Lts-lay as lay-lts
