@@ -13,7 +13,7 @@ use Rattle.slicing.specs.Item.{Item, height, width}
 use Rattle.slicing.specs.Tree.{Tree}
 use Rattle.slicing.specs.Shapes.{shapes}
 use Rattle.slicing.specs.Fit.{Pick, nothing, picked, smallest, place, words}
-use Rattle.slicing.specs.Layout.{outline}
+use Rattle.slicing.specs.Layout.{Outline}
 use Rattle.slicing.proofs.Placing.{words-length}
 use Rattle.slicing.proofs.ShapeLaws.{shapes-short}
 use Rattle.facefile.specs.Format.{faceOf}
@@ -30,7 +30,7 @@ use Rattle.picking.proofs.Looking.{product-low}
 use Rattle.laying.specs.Laying.{shapeAt, Layable, laid}
 use Rattle.laying.proofs.StretchLaws.{stretch-ready, stretch-list, stretch-count, stretch-facing}
 use Rattle.laying.proofs.ShapeReading.{Place, shape-low}
-use Rattle.laying.proofs.LayLaws.{Word, root-layable}
+use Rattle.laying.proofs.GaugeLaws.{Word, Ready, Lays, root-layable}
 use Rattle.fit.specs.declared.Fitted.{Fitted}
 use Rattle.fit.specs.Fitting.{noFace, faceFound, faceWords}
 use Rattle.fit.specs.Facing.{Placeable, PlacedIn}
@@ -51,26 +51,26 @@ module _ {file s z : List ℕ} {root : ℕ} (filled : (t : Tree) → faceOf file
       (ownShapes (p .tree), stretch-list z root false a e (p .tree) root-stored, stretch-count z root false a e (p .tree) root-stored)
 
 -- What is known where the pick was made: the face is stored, the stretch is its root's, and the pick is that of the root's list.
-pub record Chosen (file s z : List ℕ) (root high wide : ℕ) (a : Stretch) (found : Bool) (at : ℕ) : Type 0 where
+pub record Chosen (file s z : List ℕ) (root : ℕ) (o : Outline) (a : Stretch) (found : Bool) (at : ℕ) : Type 0 where
   pub filled : (t : Tree) → faceOf file ≡ taken t → Filled s z root t
   pub root-is : a ≡ stretchOf z root 0x02
-  pub picks : (l : List Item) → HasList z (a .from) l → a .count ≡ length l → Picks (outline high wide) (facing (a .across) l) found at
+  pub picks : (l : List Item) → HasList z (a .from) l → a .count ≡ length l → Picks o (facing (a .across) l) found at
 
-module _ {file s z : List ℕ} {root high wide : ℕ} {a : Stretch} {found : Bool} {at : ℕ} (chosen : Chosen file s z root high wide a found at) where
-  face-picks : (t : Tree) → faceOf file ≡ taken t → Picks (outline high wide) (shapes 0 t) found at
+module _ {file s z : List ℕ} {root : ℕ} {o : Outline} {a : Stretch} {found : Bool} {at : ℕ} (chosen : Chosen file s z root o a found at) where
+  face-picks : (t : Tree) → faceOf file ≡ taken t → Picks o (shapes 0 t) found at
   face-picks t e =
       let h = chosen .filled t e .stored in
-      subst (λ (l : List Item). Picks (outline high wide) l found at) (stretch-facing z root false a (chosen .root-is) t h)
+      subst (λ (l : List Item). Picks o l found at) (stretch-facing z root false a (chosen .root-is) t h)
       (chosen .picks (ownShapes t) (stretch-list z root false a (chosen .root-is) t h) (stretch-count z root false a (chosen .root-is) t h))
 
   count-is : (t : Tree) → faceOf file ≡ taken t → a .count ≡ length (shapes 0 t)
   count-is t e = stretch-count z root false a (chosen .root-is) t (chosen .filled t e .stored) ∙ own-length t
 
   -- Nothing was picked.
-  pub face-none : not found ≡ true → (old : List ℕ) {r : Fitted} → r ≡ noFace 19 → PlacedIn file (outline high wide) r old old
+  pub face-none : not found ≡ true → (old : List ℕ) {r : Fitted} → r ≡ noFace 19 → PlacedIn file o r old old
   unfolding PlacedIn
   face-none none old e t face =
-      let pick : smallest (outline high wide) (shapes 0 t) ≡ nothing = face-picks t face .same ∙ ap (λ (b : Bool). pickAt b (shapes 0 t) at) (not-true found none) in
+      let pick : smallest o (shapes 0 t) ≡ nothing = face-picks t face .same ∙ ap (λ (b : Bool). pickAt b (shapes 0 t) at) (not-true found none) in
       record { answer = e ∙ ap (faceFound t) (sym pick); written = ap (λ (x : Pick). faceWords t x old) (sym pick) }
 
   -- An item was picked.
@@ -87,7 +87,7 @@ module _ {file s z : List ℕ} {root high wide : ℕ} {a : Stretch} {found : Boo
         (subst (λ (n : ℕ). Layable z root (p .tree) n at 0 0 old) (sym (p .gauges-is))
         (root-layable z root (p .tree) at old (chosen .filled (p .tree) (p .face) .stored) (face-taken file (p .tree) (p .face) .good) (in-list (p .tree) (p .face)) (p .room)))
 
-    pub face-lays : (t : Tree) × Layable z root t gauges at 0 0 old
+    pub face-lays : Ready z root gauges at 0 0 old
     face-lays = (p .tree, layable (p .tree) (p .face))
 
     pub face-counts : a .count < 2 ^ 32
@@ -98,12 +98,15 @@ module _ {file s z : List ℕ} {root high wide : ℕ} {a : Stretch} {found : Boo
         let most = face .most in
         omega arith
 
-    pub face-done : {word m q : ℕ} {output : List ℕ} → Word z root at word → m ≡ word / 65_536 → q ≡ word % 65_536 → ((t : Tree) → Layable z root t gauges at 0 0 old → output ≡ laid t at 0 0 old) → PlacedIn file (outline high wide) (record { number = 0; height = m; width = q; area = m * q; count = a .count }) old output
+    pub face-done : {word m q : ℕ} {output : List ℕ}
+        → Word z root at word → m ≡ word / 65_536 → q ≡ word % 65_536
+        → Lays z root gauges at 0 0 old output
+        → PlacedIn file o (record { number = 0; height = m; width = q; area = m * q; count = a .count }) old output
     unfolding PlacedIn laid writtenOver
     face-done {word} {m} {q} read m-read q-read lay t e =
         let v = shapeAt t at in
         let stored = chosen .filled t e .stored in
-        let pick : smallest (outline high wide) (shapes 0 t) ≡ picked v = face-picks t e .same ∙ ap (λ (b : Bool). pickAt b (shapes 0 t) at) (not-false found some) in
+        let pick : smallest o (shapes 0 t) ≡ picked v = face-picks t e .same ∙ ap (λ (b : Bool). pickAt b (shapes 0 t) at) (not-false found some) in
         let word-is = read t stored (in-list t e) in
         let low = shape-low z root at t stored (in-list t e) in
         record {

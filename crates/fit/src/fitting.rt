@@ -1,6 +1,6 @@
 // The fit call.
 ghost use mathlib.Core.Path.{_≡_};
-ghost use Prim.Native.Nat.{_*_, _/_, _%_, _≤_, _<_};
+ghost use Prim.Native.Nat.{_≤_};
 ghost use Rattle.checks.specs.Answer.{number};
 ghost use Rattle.slicing.specs.Layout.{outline};
 ghost use Rattle.facefile.specs.Format.{faceOf};

@@ -29,6 +29,11 @@ use Rattle.laying.specs.Laying.{shapeAt, movedBy, Layable}
 abbrev pub side : Bool → Item → Tree → Item
 side upward z t = noTaller (facingItem upward z .m) (facing upward (shapes 0 t))
 
+-- The words of a part that is laid out with an item, its lower left corner at x, y.
+abbrev pub wordsOf : Tree → Item → ℕ → ℕ → List ℕ
+wordsOf t z x y = words t (place 0 t z x y)
+
+-- A stored join as its two parts: where they stand, what they take for the item at place k, and the words of the whole with its lower left corner at x, y.
 pub record View (s : List ℕ) (part : ℕ) (upward : Bool) (t : Tree) (k x y : ℕ) : Type 0 where
   pub a : Tree
   pub b : Tree
@@ -40,7 +45,10 @@ pub record View (s : List ℕ) (part : ℕ) (upward : Bool) (t : Tree) (k x y : 
   pub enough : 2 * gaugeCount t ≤ part + 2
   pub count : gaugeCount t ≡ gaugeCount a + gaugeCount b
   pub both : Sides 0 (facing upward (shapes 0 a)) (facing upward (shapes 0 b)) (facingItem upward (shapeAt t k))
-  pub whole : words t (place 0 t (shapeAt t k) x y) ≡ words a (place 0 a (facingItem upward (side upward (shapeAt t k) a)) x y) ++ words b (place 0 b (facingItem upward (side upward (shapeAt t k) b)) (movedBy (not upward) x (side upward (shapeAt t k) a .p)) (movedBy upward y (side upward (shapeAt t k) a .p)))
+  pub whole :
+      wordsOf t (shapeAt t k) x y
+      ≡ wordsOf a (facingItem upward (side upward (shapeAt t k) a)) x y
+      ++ wordsOf b (facingItem upward (side upward (shapeAt t k) b)) (movedBy (not upward) x (side upward (shapeAt t k) a .p)) (movedBy upward y (side upward (shapeAt t k) a .p))
 
 module _ {s : List ℕ} {part gauges k x y : ℕ} {out : List ℕ} where
   view-beside : (a b : Tree) → Layable s part (beside a b) gauges k x y out → View s part false (beside a b) k x y
@@ -58,7 +66,7 @@ module _ {s : List ℕ} {part gauges k x y : ℕ} {out : List ℕ} where
         count = gauges-joined a b;
         both = sides 0 (shapes 0 a) (shapes 0 b) (shapes-ordered 0 a (h .good .0)) (shapes-ordered 0 b (h .good .1)) (shapeAt (beside a b) k) (place-in (shapes 0 (beside a b)) k (h .in-list));
         whole =
-            ap (λ (n : ℕ). words a (place 0 a (side false (shapeAt (beside a b) k) a) x y) ++ words b (place 0 b (side false (shapeAt (beside a b) k) b) n y))
+            ap (λ (n : ℕ). wordsOf a (side false (shapeAt (beside a b) k) a) x y ++ wordsOf b (side false (shapeAt (beside a b) k) b) n y)
             (add-zero (x + side false (shapeAt (beside a b) k) a .p));
       }
 
@@ -81,7 +89,7 @@ module _ {s : List ℕ} {part gauges k x y : ℕ} {out : List ℕ} where
             (turn-ordered (shapes 0 b) (shapes-ordered 0 b (h .good .1))) (swap z)
             (turn-out z (merge 0 (turn (shapes 0 a)) (turn (shapes 0 b))) (place-in (shapes 0 (stacked a b)) k (h .in-list)));
         whole =
-            ap (λ (n : ℕ). words a (place 0 a (swap (side true z a)) x y) ++ words b (place 0 b (swap (side true z b)) x n))
+            ap (λ (n : ℕ). wordsOf a (swap (side true z a)) x y ++ wordsOf b (swap (side true z b)) x n)
             (add-zero (y + side true z a .p));
       }
 
@@ -103,7 +111,11 @@ pub record Edges (upward : Bool) (a b : Item) (extent x y : ℕ) : Type 0 where
   pub b-across : movedBy (not upward) x extent + width b < 2 ^ 32
   pub b-up : movedBy upward y extent + height b < 2 ^ 32
 
-pub edges : (upward : Bool) (z u v a b : Item) (x y : ℕ) → u ≡ facingItem upward a → v ≡ facingItem upward b → facingItem upward z .m ≡ max (u .m) (v .m) → facingItem upward z .p ≡ u .p + 0 + v .p → x + width z < 2 ^ 32 → y + height z < 2 ^ 32 → Edges upward a b (u .p) x y
+pub edges : (upward : Bool) (z u v a b : Item) (x y : ℕ)
+    → u ≡ facingItem upward a → v ≡ facingItem upward b
+    → facingItem upward z .m ≡ max (u .m) (v .m) → facingItem upward z .p ≡ u .p + 0 + v .p
+    → x + width z < 2 ^ 32 → y + height z < 2 ^ 32
+    → Edges upward a b (u .p) x y
 edges true z u v a b x y e f m p across up =
     let um = ap height e in
     let uw = ap width e in

@@ -1,47 +1,30 @@
--- The layout of a stored part is written: a gauge's words, and at a join those of the older part and then those of the newer.
+-- The layout of a stored join is written: the words of the older part, and then those of the newer.
 -- What each part takes is the item at the place handed on, and the newer part's words follow the older's in the stretch that is lent on.
 use mathlib.Core.Path.{_≡_, refl, sym, ap, subst, _∙_}
 use mathlib.Core.Bool.{Bool, true, false, cond, not}
-use mathlib.Core.List.{List, [], _∷_, _++_, append-assoc, append-nil}
+use mathlib.Core.List.{List, [], _++_, append-assoc, append-nil}
 use Prim.Native.Nat.{ℕ, _+_, _*_, _-_, _/_, _%_, _^_, _≤_, _<_}
 use native.Mathlib.Omega.{arith}
-use lib.ListN.{length, getD, set, take, drop, length-take, length-drop, drop-of-length-le}
+use lib.ListN.{length, getD, take, drop, length-take, length-drop, drop-of-length-le}
 use lib.Seq.{take-at, drop-at, take-all, drop-drop}
 use borrow.Rule.Slice.PartMut.{putMid}
-use Rattle.slicing.specs.Item.{Item, size, height, width}
-use Rattle.slicing.specs.Tree.{Tree, gauge, beside, stacked, gaugeCount}
-use Rattle.slicing.specs.Good.{Good}
+use Rattle.slicing.specs.Item.{Item, height, width}
+use Rattle.slicing.specs.Tree.{Tree, gaugeCount}
 use Rattle.slicing.specs.Shapes.{shapes}
-use Rattle.slicing.specs.Fit.{noTaller, place, words}
+use Rattle.slicing.specs.Fit.{noTaller, place}
 use Rattle.slicing.proofs.Depths.{depth-few}
 use Rattle.slicing.proofs.Placing.{words-length}
 use Rattle.stored.specs.Packed.{pack, facing}
 use Rattle.stored.specs.Store.{Stored}
+use Rattle.stored.proofs.StoredLists.{Low, m-is, p-is}
+use Rattle.stored.proofs.OwnLists.{entry-of}
 use Rattle.laying.specs.Taking.{facingItem, Takable, Takes}
 use Rattle.laying.specs.Laying.{shapeAt, movedBy, Layable, laid}
-use Rattle.stored.proofs.StoredLists.{Low, m-is, p-is}
-use Rattle.laying.proofs.OrderLaws.{index-at}
-use Rattle.stored.proofs.OwnLists.{entry-of}
 use Rattle.laying.proofs.StretchLaws.{table-inside}
+use Rattle.laying.proofs.ShapeReading.{shape-low}
 use Rattle.laying.proofs.TakeLaws.{Side}
-use Rattle.laying.proofs.ShapeReading.{Place, shape-low}
-use Rattle.laying.proofs.JoinLaws.{side, View, Edges, edges}
-
--- The word of the item at the place of the part's list.
-abbrev pub Word : List ℕ → ℕ → ℕ → ℕ → Type 0
-Word s part k z = (t : Tree) → Stored s part t → k < length (shapes 0 t) → z ≡ pack (shapeAt t k)
-
--- The stores of a gauge's five words, and its words.
-five-words : (out : List ℕ) (a b c d e : ℕ) → 5 ≤ length out → set (set (set (set (set out 0 a) 1 b) 2 c) 3 d) 4 e ≡ a ∷ b ∷ c ∷ d ∷ e ∷ drop 5 out
-five-words (v ∷ w ∷ x ∷ y ∷ z ∷ out) a b c d e h = refl
-five-words (v ∷ w ∷ x ∷ y ∷ []) a b c d e h = absurd (omega arith)
-five-words (v ∷ w ∷ x ∷ []) a b c d e h = absurd (omega arith)
-five-words (v ∷ w ∷ []) a b c d e h = absurd (omega arith)
-five-words (v ∷ []) a b c d e h = absurd (omega arith)
-five-words [] a b c d e h = absurd (omega arith)
-
-pub gauge-words : (out : List ℕ) (n x y z w h : ℕ) → 5 ≤ length out → w ≡ z % 65_536 → h ≡ z / 65_536 → set (set (set (set (set out 0 n) 1 x) 2 y) 3 w) 4 h ≡ n ∷ x ∷ y ∷ (z % 65_536) ∷ (z / 65_536) ∷ drop 5 out
-gauge-words out n x y z w h room e f = five-words out n x y w h room ∙ rw (e, f)
+use Rattle.laying.proofs.JoinLaws.{side, wordsOf, View, Edges, edges}
+use Rattle.laying.proofs.GaugeLaws.{Word, Ready, Lays}
 
 -- What is lent on of a list from a place.
 abbrev restFrom : ℕ → List ℕ → List ℕ
@@ -56,61 +39,6 @@ two-parts first second out one two m n e f g h =
     let none : drop (length one - m) (drop m one) ≡ [] = drop-of-length-le (drop m one) {i = length one - m} (omega (arith, length-drop m one)) in
     let rest : two ≡ second ++ drop (m + n) out = h ∙ ap (λ (l : List ℕ). second ++ drop n l) (all ∙ after) ∙ ap (λ (l : List ℕ). second ++ l) (drop-drop n m out) in
     rw (before, none, append-nil, rest) (sym (append-assoc first second (drop (m + n) out)))
-
--- Some part that can be laid out.
-abbrev pub Ready : List ℕ → ℕ → ℕ → ℕ → ℕ → ℕ → List ℕ → Type 0
-Ready s part gauges k x y out = (t : Tree) × Layable s part t gauges k x y out
-
-module _ {s : List ℕ} {part gauges k x y : ℕ} {out : List ℕ} where
-  pub ready-inside : Ready s part gauges k x y out → 4 * part + 3 < length s
-  ready-inside pre = table-inside s part (pre .0) (pre .1 .stored)
-
-  pub ready-item : Ready s part gauges k x y out → Place s part k
-  ready-item pre = (pre .0, pre .1 .stored, pre .1 .in-list)
-
-  -- At a gauge, by the kind that is read of the table.
-  module _ {kind : ℕ} (kind-is : kind ≡ getD s (4 * part + 2) 0) (one : kind ≡ 1) where
-    gauge-fits : (t : Tree) → Layable s part t gauges k x y out → (5 ≤ length out) × (k + 1 < 2 ^ 32)
-    unfolding shapes
-    gauge-fits (gauge z) h =
-        let room = h .room in
-        let inside = h .in-list in
-        let few = h .good .few in (omega arith, omega arith)
-    gauge-fits (beside a b) h = let same = h .stored .0 .kind-is in absurd (omega arith)
-    gauge-fits (stacked a b) h = let same = h .stored .0 .kind-is in absurd (omega arith)
-
-    pub gauge-room : Ready s part gauges k x y out → (5 ≤ length out) × (k + 1 < 2 ^ 32)
-    gauge-room pre = gauge-fits (pre .0) (pre .1)
-
-    pub gauge-laid : {z : ℕ} {last : List ℕ} → Word s part k z → last ≡ (k + 1) ∷ x ∷ y ∷ (z % 65_536) ∷ (z / 65_536) ∷ drop 5 out → (t : Tree) → Layable s part t gauges k x y out → last ≡ laid t k x y out
-    unfolding shapes laid place
-    gauge-laid {z} {last} word written (gauge sizes) h =
-        let item = getD sizes k (size 0 0) in
-        let low = shape-low s part k (gauge sizes) (h .stored) (h .in-list) in
-        let here = index-at sizes (h .good .ordered) k (h .in-list) in
-        let same-word = word (gauge sizes) (h .stored) (h .in-list) in
-        let m-same : z / 65_536 ≡ height item = m-is item z (z / 65_536) low same-word refl in
-        let p-same : z % 65_536 ≡ width item = p-is item z (z % 65_536) low same-word refl in
-        written
-        ∙ ap (λ (n : ℕ). (k + 1) ∷ x ∷ y ∷ n ∷ (z / 65_536) ∷ drop 5 out) p-same
-        ∙ ap (λ (n : ℕ). (k + 1) ∷ x ∷ y ∷ width item ∷ n ∷ drop 5 out) m-same
-        ∙ ap (λ (n : ℕ). (n + 1) ∷ x ∷ y ∷ width (getD sizes n (size 0 0)) ∷ height (getD sizes n (size 0 0)) ∷ drop 5 out) (sym here)
-    gauge-laid word written (beside a b) h = let same = h .stored .0 .kind-is in absurd (omega arith)
-    gauge-laid word written (stacked a b) h = let same = h .stored .0 .kind-is in absurd (omega arith)
-
--- A whole face is laid out from 0, 0: its items are below 65,536.
-pub root-layable : (s : List ℕ) (part : ℕ) (t : Tree) (k : ℕ) (out : List ℕ) → Stored s part t → Good t → k < length (shapes 0 t) → 5 * gaugeCount t ≤ length out → Layable s part t (gaugeCount t) k 0 0 out
-root-layable s part t k out h good inside room =
-    let low = shape-low s part k t h inside in
-    record {
-      stored = h;
-      good = good;
-      gauges-is = refl;
-      in-list = inside;
-      room = room;
-      across = omega arith;
-      up = omega arith;
-    }
 
 limit-same : (upward : Bool) (item : Item) (z limit : ℕ) → Low item → z ≡ pack item → limit ≡ cond upward (z % 65_536) (z / 65_536) → limit ≡ facingItem upward item .m
 limit-same true item z limit low e f = p-is item z limit low e f
@@ -218,7 +146,8 @@ module _ {s : List ℕ} {part gauges k x y : ℕ} {out : List ℕ} {upward : Boo
       the-edges t h v =
           let r = took t h v in
           subst (λ (n : ℕ). Edges upward (shapeAt (v .a) ka) (shapeAt (v .b) kb) n x y) (sym (r .extent))
-          (edges upward (shapeAt t k) (side upward (shapeAt t k) (v .a)) (side upward (shapeAt t k) (v .b)) (shapeAt (v .a) ka) (shapeAt (v .b) kb) x y (r .side-a) (r .side-b) (v .both .m-is) (v .both .p-is) (h .across) (h .up))
+          (edges upward (shapeAt t k) (side upward (shapeAt t k) (v .a)) (side upward (shapeAt t k) (v .b)) (shapeAt (v .a) ka) (shapeAt (v .b) kb) x y
+          (r .side-a) (r .side-b) (v .both .m-is) (v .both .p-is) (h .across) (h .up))
 
       pub right-fits : movedBy (not upward) x ea < 2 ^ 32
       right-fits = the-edges (j .ready .0) (j .ready .1) the-view .right
@@ -254,7 +183,8 @@ module _ {s : List ℕ} {part gauges k x y : ℕ} {out : List ℕ} {upward : Boo
               good = v .good-b;
               gauges-is = rest-is t v;
               in-list = took t h v .in-b;
-              room = omega (arith, h .room, h .gauges-is, rest-is t v, v .count, length-take (length one - 5 * (gauges - rest)) (drop (5 * (gauges - rest)) one), length-drop (5 * (gauges - rest)) one);
+              room =
+                  omega (arith, h .room, h .gauges-is, rest-is t v, v .count, length-take (length one - 5 * (gauges - rest)) (drop (5 * (gauges - rest)) one), length-drop (5 * (gauges - rest)) one);
               across = subst (λ (n : ℕ). n + width (shapeAt (v .b) kb) < 2 ^ 32) (sym right-is) (e .b-across);
               up = subst (λ (n : ℕ). n + height (shapeAt (v .b) kb) < 2 ^ 32) (sym above-is) (e .b-up);
             }
@@ -264,7 +194,7 @@ module _ {s : List ℕ} {part gauges k x y : ℕ} {out : List ℕ} {upward : Boo
             let n = counts in
             (omega arith, (the-view .b, newer-layable (j .ready .0) (j .ready .1) the-view))
 
-        both-words : (t : Tree) → Layable s part t gauges k x y out → (v : View s part upward t k x y) → words (v .a) (place 0 (v .a) (shapeAt (v .a) ka) x y) ++ words (v .b) (place 0 (v .b) (shapeAt (v .b) kb) right above) ≡ words t (place 0 t (shapeAt t k) x y)
+        both-words : (t : Tree) → Layable s part t gauges k x y out → (v : View s part upward t k x y) → wordsOf (v .a) (shapeAt (v .a) ka) x y ++ wordsOf (v .b) (shapeAt (v .b) kb) right above ≡ wordsOf t (shapeAt t k) x y
         both-words t h v =
             let r = took t h v in
             let same-a = ap (facingItem upward) (r .side-a) ∙ facing-back upward (shapeAt (v .a) ka) in
@@ -273,15 +203,21 @@ module _ {s : List ℕ} {part gauges k x y : ℕ} {out : List ℕ} {upward : Boo
             let same-above = above-is ∙ ap (movedBy upward y) (r .extent) in
             rw (← same-a, ← same-b, same-right, same-above) (sym (v .whole))
 
-        pub join-laid : {two : List ℕ} → ((t : Tree) → Layable s (part - 2 * rest) t (gauges - rest) ka x y out → one ≡ laid t ka x y out) → ((t : Tree) → Layable s (part - 1) t rest kb right above (restFrom (5 * (gauges - rest)) one) → two ≡ laid t kb right above (restFrom (5 * (gauges - rest)) one)) → (t : Tree) → Layable s part t gauges k x y out → putMid (5 * (gauges - rest)) (length one - 5 * (gauges - rest)) one two ≡ laid t k x y out
+        pub join-laid : {two : List ℕ}
+            → Lays s (part - 2 * rest) (gauges - rest) ka x y out one
+            → Lays s (part - 1) rest kb right above (restFrom (5 * (gauges - rest)) one) two
+            → Lays s part gauges k x y out (putMid (5 * (gauges - rest)) (length one - 5 * (gauges - rest)) one two)
         unfolding laid
         join-laid {two} did-a did-b t h =
             let v = j .seen t h in
-            let wa = words (v .a) (place 0 (v .a) (shapeAt (v .a) ka) x y) in
-            let wb = words (v .b) (place 0 (v .b) (shapeAt (v .b) kb) right above) in
+            let wa = wordsOf (v .a) (shapeAt (v .a) ka) x y in
+            let wb = wordsOf (v .b) (shapeAt (v .b) kb) right above in
             let few : 5 * gaugeCount (v .a) ≡ 5 * (gauges - rest) = omega (arith, rest-is t v, h .gauges-is, v .count) in
             let all : 5 * (gauges - rest) + 5 * gaugeCount (v .b) ≡ 5 * gaugeCount t = omega (arith, v .count) in
+            let long-a : length wa ≡ 5 * (gauges - rest) = words-length (v .a) (place 0 (v .a) (shapeAt (v .a) ka) x y) ∙ few in
+            let long-b = words-length (v .b) (place 0 (v .b) (shapeAt (v .b) kb) right above) in
             let first : one ≡ wa ++ drop (5 * (gauges - rest)) out = subst (λ (n : ℕ). one ≡ wa ++ drop n out) few (did-a (v .a) (older-layable t h v)) in
-            two-parts wa wb out one two (5 * (gauges - rest)) (5 * gaugeCount (v .b)) (words-length (v .a) (place 0 (v .a) (shapeAt (v .a) ka) x y) ∙ few) (words-length (v .b) (place 0 (v .b) (shapeAt (v .b) kb) right above)) first (did-b (v .b) (newer-layable t h v))
+            let second = did-b (v .b) (newer-layable t h v) in
+            two-parts wa wb out one two (5 * (gauges - rest)) (5 * gaugeCount (v .b)) long-a long-b first second
             ∙ ap (λ (l : List ℕ). l ++ drop (5 * (gauges - rest) + 5 * gaugeCount (v .b)) out) (both-words t h v)
-            ∙ ap (λ (n : ℕ). words t (place 0 t (shapeAt t k) x y) ++ drop n out) all
+            ∙ ap (λ (n : ℕ). wordsOf t (shapeAt t k) x y ++ drop n out) all

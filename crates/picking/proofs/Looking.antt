@@ -18,9 +18,13 @@ use Rattle.stored.proofs.Reading.{ItemWord}
 use Rattle.stored.proofs.StoredLists.{facing-length, Low, facing-low, m-is, p-is}
 use Rattle.picking.proofs.PickLaws.{rank, Standing, Narrow, standing-start, standing-past, standing-worse, standing-taken, standing-done}
 
+-- Of any list that stands there, the items from k on have been looked at.
+abbrev Looked : List ℕ → ℕ → ℕ → Bool → ℕ → ℕ → ℕ → ℕ → ℕ → Type 0
+Looked s from count across height width k place best = (l : List Item) → HasList s from l → count ≡ length l → Standing (outline height width) (facing across l) k place best
+
 pub record Looking (s : List ℕ) (from count : ℕ) (across : Bool) (height width k place best : ℕ) : Type 0 where
   pub bound : k ≤ count
-  pub so-far : (l : List Item) → HasList s from l → count ≡ length l → Standing (outline height width) (facing across l) k place best
+  pub so-far : Looked s from count across height width k place best
 
 -- Two numbers below 65,536 have a product below 2 ^ 32.
 pub product-low : (h w : ℕ) → h < 65_536 → w < 65_536 → h * w ≤ 65_535 * 65_535
@@ -40,7 +44,10 @@ too-wide height width z h k = simp (le-leb (z .m) height h, lt-leb (z .p) width 
 in-opening : (height width : ℕ) (z : Item) → z .m ≤ height → z .p ≤ width → fits (outline height width) z ≡ true
 in-opening height width z h k = simp (le-leb (z .m) height h, le-leb (z .p) width k)
 
-pub can-read : (s : List ℕ) (from count : ℕ) (across : Bool) (height width k place best : ℕ) → ((l : List Item) × HasList s from l × (count ≡ length l)) → Looking s from count across height width k place best → 0 < k → ((l : List Item) × HasList s from l × (count ≡ length l) × (k - 1 < count))
+pub can-read : (s : List ℕ) (from count : ℕ) (across : Bool) (height width k place best : ℕ)
+    → ((l : List Item) × HasList s from l × (count ≡ length l))
+    → Looking s from count across height width k place best → 0 < k
+    → ((l : List Item) × HasList s from l × (count ≡ length l) × (k - 1 < count))
 can-read s from count across height width k place best pre inv some = (pre .0, pre .1, pre .2, omega arith)
 
 -- What is read of an item is below 65,536.
@@ -76,20 +83,25 @@ module _ (s : List ℕ) (from count : ℕ) (across : Bool) (height width : ℕ) 
         narrow = λ i h. facing-low across s from l has i (omega arith) .1;
       }
 
-  pub looking-high : (k place best z h : ℕ) → Looking s from count across height width k place best → 0 < k → ItemWord s from count across (k - 1) z → h ≡ z / 65_536 → height < h → Looking s from count across height width (k - 1) place best
+  pub looking-high : (k place best z h : ℕ)
+      → Looking s from count across height width k place best → 0 < k → ItemWord s from count across (k - 1) z → h ≡ z / 65_536 → height < h
+      → Looking s from count across height width (k - 1) place best
   looking-high k place best z h inv some read h-is high = record { bound = omega arith; so-far = past }
     where
-      past : (l : List Item) → HasList s from l → count ≡ length l → Standing (outline height width) (facing across l) (k - 1) place best
+      past : Looked s from count across height width (k - 1) place best
       past l has e =
           let n = next k place best z inv some read l has e in
           let y = getD (facing across l) (k - 1) (size 0 0) in
           let m-same = m-is y z h (n .low) (n .word) h-is in
           standing-past (outline height width) (facing across l) (k - 1) place best (n .in-list) (too-high height width y (omega arith)) (n .after)
 
-  pub looking-wide : (k place best z h w : ℕ) → Looking s from count across height width k place best → 0 < k → ItemWord s from count across (k - 1) z → h ≡ z / 65_536 → w ≡ z % 65_536 → h ≤ height → width < w → Looking s from count across height width (k - 1) place best
+  pub looking-wide : (k place best z h w : ℕ)
+      → Looking s from count across height width k place best → 0 < k → ItemWord s from count across (k - 1) z
+      → h ≡ z / 65_536 → w ≡ z % 65_536 → h ≤ height → width < w
+      → Looking s from count across height width (k - 1) place best
   looking-wide k place best z h w inv some read h-is w-is fits-h wide = record { bound = omega arith; so-far = past }
     where
-      past : (l : List Item) → HasList s from l → count ≡ length l → Standing (outline height width) (facing across l) (k - 1) place best
+      past : Looked s from count across height width (k - 1) place best
       past l has e =
           let n = next k place best z inv some read l has e in
           let y = getD (facing across l) (k - 1) (size 0 0) in
@@ -100,10 +112,13 @@ module _ (s : List ℕ) (from count : ℕ) (across : Bool) (height width : ℕ) 
   rank-same : (y : Item) (h w r : ℕ) → h ≡ y .m → w ≡ y .p → r ≡ 65_536 * (h * w) + w → r ≡ rank y
   rank-same y h w r e f g = g ∙ rw (e, f)
 
-  pub looking-worse : (k place best z h w r : ℕ) → Looking s from count across height width k place best → 0 < k → ItemWord s from count across (k - 1) z → h ≡ z / 65_536 → w ≡ z % 65_536 → h ≤ height → w ≤ width → r ≡ 65_536 * (h * w) + w → best < r → Looking s from count across height width (k - 1) place best
+  pub looking-worse : (k place best z h w r : ℕ)
+      → Looking s from count across height width k place best → 0 < k → ItemWord s from count across (k - 1) z
+      → h ≡ z / 65_536 → w ≡ z % 65_536 → h ≤ height → w ≤ width → r ≡ 65_536 * (h * w) + w → best < r
+      → Looking s from count across height width (k - 1) place best
   looking-worse k place best z h w r inv some read h-is w-is fits-h fits-w r-is more = record { bound = omega arith; so-far = past }
     where
-      past : (l : List Item) → HasList s from l → count ≡ length l → Standing (outline height width) (facing across l) (k - 1) place best
+      past : Looked s from count across height width (k - 1) place best
       past l has e =
           let n = next k place best z inv some read l has e in
           let y = getD (facing across l) (k - 1) (size 0 0) in
@@ -112,10 +127,13 @@ module _ (s : List ℕ) (from count : ℕ) (across : Bool) (height width : ℕ) 
           let r-same = rank-same y h w r m-same p-same r-is in
           standing-worse (outline height width) (facing across l) (k - 1) place best (n .in-list) (n .narrow) (in-opening height width y (omega arith) (omega arith)) (rank-fits y (n .low)) (subst (λ (i : ℕ). best < i) r-same more) (n .after)
 
-  pub looking-taken : (k place best z h w r : ℕ) → Looking s from count across height width k place best → 0 < k → ItemWord s from count across (k - 1) z → h ≡ z / 65_536 → w ≡ z % 65_536 → h ≤ height → w ≤ width → r ≡ 65_536 * (h * w) + w → r ≤ best → Looking s from count across height width (k - 1) (k - 1) r
+  pub looking-taken : (k place best z h w r : ℕ)
+      → Looking s from count across height width k place best → 0 < k → ItemWord s from count across (k - 1) z
+      → h ≡ z / 65_536 → w ≡ z % 65_536 → h ≤ height → w ≤ width → r ≡ 65_536 * (h * w) + w → r ≤ best
+      → Looking s from count across height width (k - 1) (k - 1) r
   looking-taken k place best z h w r inv some read h-is w-is fits-h fits-w r-is less = record { bound = omega arith; so-far = taken }
     where
-      taken : (l : List Item) → HasList s from l → count ≡ length l → Standing (outline height width) (facing across l) (k - 1) (k - 1) r
+      taken : Looked s from count across height width (k - 1) (k - 1) r
       taken l has e =
           let n = next k place best z inv some read l has e in
           let y = getD (facing across l) (k - 1) (size 0 0) in

@@ -2,6 +2,7 @@
 -- The stored root's list is the face's, and each call is ready for the next.
 use native.Mathlib.Omega.{arith}
 use borrow.Author.Needs.{needs}
+use Rattle.slicing.specs.Layout.{outline}
 use Rattle.picking.proofs.Looking.{halves-low}
 use Rattle.fit.proofs.FaceLaws.{area-fits, root-ready, root-list, Chosen, face-none, face-place, face-lays, face-counts, face-done}
 use Rattle.fit.proofs.fitting.place_face.Statement.{statement}
@@ -33,7 +34,9 @@ module _ (c : tie.After-pick) where
   abbrev entry : tie.Start
   entry = start stored
 
-  chosen : Chosen (entry .args .file .now) (entry .args .scratch .now) (stored .store-lists .last .1 .0) (stored .store-lists .result) (entry .args .height) (entry .args .width) (at-stretch c .stretch .result) (c .pick .result .found) (c .pick .result .place)
+  chosen :
+      Chosen (entry .args .file .now) (entry .args .scratch .now) (stored .store-lists .last .1 .0) (stored .store-lists .result) (outline (entry .args .height) (entry .args .width))
+      (at-stretch c .stretch .result) (c .pick .result .found) (c .pick .result .place)
   chosen = record { filled = stored .store-lists .ensures; root-is = at-stretch c .stretch .ensures; picks = c .pick .ensures }
 
 store-lists-requires : tie.Need-store-lists-requires

@@ -1,5 +1,6 @@
 -- `laying::lay::lay` meets its contract.
 -- The measure is the number of gauges, which each part has fewer of. A gauge's words are written at once; at a join each part takes its item and lays itself out, the newer in the stretch after the older's words.
+use mathlib.Core.List.{List}
 use Prim.Native.Nat.{ℕ, _<_}
 use native.Mathlib.Omega.{arith}
 use lib.Dec.{eqb}
@@ -8,8 +9,9 @@ use borrow.Author.Needs.{needs}
 use borrow.Fn.Kinds.{In}
 use borrow.Fn.PlainCycle.{Measures, is, falls, and}
 use Rattle.stored.proofs.table.part_word.Reads as part-word-reads
+use Rattle.laying.proofs.GaugeLaws.{ready-inside, ready-item, gauge-room, gauge-laid}
 use Rattle.laying.proofs.JoinLaws.{view}
-use Rattle.laying.proofs.LayLaws.{ready-inside, ready-item, gauge-room, gauge-laid, Join, join-some, newer-inside, Counts, counts, older-takes, newer-takes, right-fits, above-fits, lay-older, lay-newer, join-laid}
+use Rattle.laying.proofs.LayLaws.{Join, join-some, newer-inside, Counts, counts, older-takes, newer-takes, right-fits, above-fits, lay-older, lay-newer, join-laid}
 use Rattle.laying.proofs.lay.lay.Reads as lay
 use Rattle.laying.proofs.lay.lay.Kinds as lay-kinds
 use Rattle.laying.proofs.lay.+lay.Lts-lay as lay-lts
@@ -85,7 +87,9 @@ module _ (t : ℕ) where
     abbrev start : lay-lts.Start calls asked lay.Post
     start = at-item .before .before .before .before
 
-    join : Join (start .args .scratch .now) (start .args .part) (start .args .gauges) (start .args .place) (start .args .x) (start .args .y) (start .args .out .now) (eqb (at-item .before .part-word .result) 3) (at-item .item-at .result) (c .along .result)
+    join :
+        Join (start .args .scratch .now) (start .args .part) (start .args .gauges) (start .args .place) (start .args .x) (start .args .y) (start .args .out .now)
+        (eqb (at-item .before .part-word .result) 3) (at-item .item-at .result) (c .along .result)
     join =
         record {
           ready = start .pre .1;
@@ -145,6 +149,9 @@ module _ (t : ℕ) where
     abbrev at-rest : lay-lts.After-part-word2 calls asked lay.Post
     at-rest = at-newer .before .before
 
+    abbrev older-out : List ℕ
+    older-out = c .lay .last .1 .1 .1 .1 .1 .1 .0
+
   mul-lay : lay-lts.Need-mul-lay calls asked lay.Post
   mul-lay c = let n = counted (at-rest (c .before .before)) in search needs
 
@@ -164,7 +171,10 @@ module _ (t : ℕ) where
   lay-requires-2 c κs =
       let at-lay = c .before .before .before in
       let at-join = at-rest at-lay .before in
-      lay-newer (join at-join) (at-rest at-lay .part-word2 .ensures) (at-newer at-lay .before .take-item .ensures) (at-newer at-lay .take-item2 .ensures) (at-above at-lay .before .moved .ensures) (at-above at-lay .moved2 .ensures) (at-lay .lay .last .1 .1 .1 .1 .1 .1 .0) (at-lay .lay .kept .1 .1 .1 .1 .1 .1 .0) (start at-join .pre .0)
+      lay-newer (join at-join) (at-rest at-lay .part-word2 .ensures)
+      (at-newer at-lay .before .take-item .ensures) (at-newer at-lay .take-item2 .ensures)
+      (at-above at-lay .before .moved .ensures) (at-above at-lay .moved2 .ensures)
+      (older-out at-lay) (at-lay .lay .kept .1 .1 .1 .1 .1 .1 .0) (start at-join .pre .0)
 
   same-length-2 : lay-lts.Need-same-length-2 calls asked lay.Post
   same-length-2 c = search needs
@@ -172,7 +182,10 @@ module _ (t : ℕ) where
   returns-2 : lay-lts.Need-returns-2 calls asked lay.Post
   returns-2 c =
       let at-lay = c .before .before .before .before .before .before in
-      join-laid (join (at-rest at-lay .before)) (at-rest at-lay .part-word2 .ensures) (at-newer at-lay .before .take-item .ensures) (at-newer at-lay .take-item2 .ensures) (at-above at-lay .before .moved .ensures) (at-above at-lay .moved2 .ensures) (at-lay .lay .last .1 .1 .1 .1 .1 .1 .0) (at-lay .lay .kept .1 .1 .1 .1 .1 .1 .0) (at-lay .lay .ensures) (c .before .before .lay2 .ensures)
+      join-laid (join (at-rest at-lay .before)) (at-rest at-lay .part-word2 .ensures)
+      (at-newer at-lay .before .take-item .ensures) (at-newer at-lay .take-item2 .ensures)
+      (at-above at-lay .before .moved .ensures) (at-above at-lay .moved2 .ensures)
+      (older-out at-lay) (at-lay .lay .kept .1 .1 .1 .1 .1 .1 .0) (at-lay .lay .ensures) (c .before .before .lay2 .ensures)
 
 pub +lay-spec : {M : Type 1} → statement M
 +lay-spec =
