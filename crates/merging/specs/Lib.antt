@@ -1,4 +1,2 @@
-pub mod Carried
-pub mod Trio
 pub mod Runs
 pub mod Merge

@@ -14,7 +14,7 @@ use Rattle.arena.specs.Chain.{All, Away, Same}
 use Rattle.arena.proofs.Cases.{lt-or-ge}
 use Rattle.arena.proofs.Frames.{all-map}
 use Rattle.arena.proofs.PutLaws.{same-trans}
-use Rattle.merging.specs.Trio.{Roomy}
+use Rattle.stepping.specs.Trio.{Roomy}
 use Rattle.merging.specs.Merge.{Mergeable, Merged}
 use Rattle.parts.specs.Part.{headOf, Part, Suits}
 use Rattle.parts.specs.Copying.{Copied}

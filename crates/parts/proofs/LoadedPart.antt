@@ -14,8 +14,8 @@ use Rattle.arena.specs.Arena.{level, mWord, adjust}
 use Rattle.arena.specs.Lazy.{held}
 use Rattle.arena.specs.Chain.{All}
 use Rattle.parts.specs.Loading.{numbers, Loaded}
-use Rattle.merging.specs.Carried.{paired, carried}
-use Rattle.merging.proofs.HeldLaws.{held-carried, carried-sums}
+use Rattle.arena.specs.Carried.{paired, carried}
+use Rattle.arena.proofs.HeldLaws.{held-carried, carried-sums}
 use Rattle.parts.specs.Part.{Part}
 
 paired-numbered : (b : List ℕ) (r n : ℕ) (z : List Item) → length z ≡ n → map (mWord b) (numbers r n) ≡ map (λ (x : Item). x .m) z → paired b (numbers r n) (map (λ (x : Item). x .p) z) ≡ numbered r z

@@ -12,8 +12,8 @@ use Rattle.arena.specs.Chain.{Has, All, Away, Same}
 use Rattle.arena.specs.Building.{Built}
 use Rattle.arena.proofs.Frames.{all-map, same-shape, next-frame, chain-frame}
 use Rattle.arena.proofs.ListLaws.{held-length}
-use Rattle.merging.proofs.HeldLaws.{held-carried}
-use Rattle.merging.proofs.CarriedLaws.{carried-same}
+use Rattle.arena.proofs.HeldLaws.{held-carried}
+use Rattle.arena.proofs.CarriedLaws.{carried-same}
 use Rattle.parts.specs.Part.{Part}
 use Rattle.parts.specs.Copying.{Copied}
 

@@ -14,8 +14,8 @@ use Rattle.arena.specs.Chain.{All, Away}
 use Rattle.arena.specs.Turning.{Turnable, Turned}
 use Rattle.arena.proofs.Cases.{eq-or-ne}
 use Rattle.arena.proofs.PutLaws.{same-refl}
-use Rattle.merging.specs.Carried.{paired, carried}
-use Rattle.merging.proofs.HeldLaws.{held-carried, carried-sums}
+use Rattle.arena.specs.Carried.{paired, carried}
+use Rattle.arena.proofs.HeldLaws.{held-carried, carried-sums}
 use Rattle.parts.specs.Part.{Part}
 use Rattle.parts.specs.Joining.{Turns, Faces}
 use Rattle.parts.proofs.PartLaws.{away-out, part-length}

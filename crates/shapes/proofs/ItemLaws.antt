@@ -9,8 +9,8 @@ use Rattle.slicing.specs.Recorded.{items}
 use Rattle.arena.specs.Arena.{mWord, adjust}
 use Rattle.arena.specs.Lazy.{held}
 use Rattle.arena.specs.Chain.{pUnder, after, trues}
-use Rattle.merging.specs.Carried.{carried}
-use Rattle.merging.proofs.HeldLaws.{held-carried}
+use Rattle.arena.specs.Carried.{carried}
+use Rattle.arena.proofs.HeldLaws.{held-carried}
 
 -- The items of the records rs, entered with the sums f.
 unfoldable pub itemsOf : List ℕ → (ℕ → ℕ) → List ℕ → List Item
