@@ -287,10 +287,10 @@ echo 'Proving the calls and building the programs.' >&2
 make_library
 compile merge merge.c lazy.c plain.c
 compile calls calls.c lists.c lazy.c plain.c reading.c stored.c face.c
-python3 -B tools/make_bench_faces.py "$work" $faces $(growing)
+PYTHONPATH=tools python3 -B -m making.bench_faces "$work" $faces $(growing)
 profile_all
 print_all | tee "$work/tables"
-if [ "${1:-}" = --write ]; then python3 -B tools/put_tables.py "$page" "$work/tables"; fi
+if [ "${1:-}" = --write ]; then python3 -B tools/making/put_tables.py "$page" "$work/tables"; fi
 
 grep -Fxvf "$page" "$work/tables" >"$work/other" || true
 if [ -s "$work/other" ]; then

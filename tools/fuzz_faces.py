@@ -3,28 +3,24 @@
 
     python3 tools/fuzz_faces.py --files 100000 --seed 1
 
-Each file goes to target/bin/faces, one process a file, and twice to target/bin/cases, one process for many files: the
-text of `faces`, and the list, fit, levels or gauge-bytes call, drawn at random. It prints how many ran and how many
-differ, and exits 1 on any difference, crash or hang.
+Each file goes to target/bin/faces, one process a file, and three times to target/bin/cases, one process for many files:
+the reader, the text of `faces`, and the list, fit, levels or gauge-bytes call, drawn at random. It prints how many ran and
+how many differ, and exits 1 on any difference, crash or hang.
 """
 
 import argparse
 import collections
 import concurrent.futures
-import pathlib
 import random
 import subprocess
 import sys
 
 sys.dont_write_bytecode = True
 
-import face_maker
-import fit_model
-import list_model
-import run_cases
-import text_model
+from making import case, random_cases, random_faces, running
+from models import fit_model, list_model, text_model
 
-BIN = pathlib.Path(__file__).resolve().parent.parent / "target" / "bin"
+FACES_PROGRAM = running.ROOT / "target" / "bin" / "faces"
 
 # The files that go to one process of cases.
 BLOCK = 2500
@@ -39,7 +35,7 @@ SIDE_BY_SIDE = 2
 # Of so many faces the damaged files are made; a face is changed for another after some use.
 FACES = 200
 
-CALLS = [run_cases.some_list, run_cases.some_fit, run_cases.some_fill, run_cases.some_gauge]
+CALLS = [random_cases.some_list, random_cases.some_fit, random_cases.some_fill, random_cases.some_gauge]
 
 
 # ---------------------------------------------------------------------------------------------------------------
@@ -82,9 +78,9 @@ def mutated(rng, faces):
         return spliced(rng, file, rng.choice(faces))
     if kind < 0.402:
         return long_file(rng, file)
-    file = face_maker.damaged(rng, file)
+    file = random_faces.damaged(rng, file)
     while file and rng.random() < 0.3:
-        file = face_maker.damaged(rng, file)
+        file = random_faces.damaged(rng, file)
     return file
 
 
@@ -93,23 +89,23 @@ class Files:
 
     def __init__(self, rng):
         self.rng = rng
-        self.faces = [face_maker.face(rng, large=0.01) for _ in range(FACES)]
+        self.faces = [random_faces.face(rng, large=0.01) for _ in range(FACES)]
 
     def take(self):
         rng = self.rng
         kind = rng.random()
         if kind < 0.08:
-            file = face_maker.face(rng, large=0.005)
+            file = random_faces.face(rng, large=0.005)
             self.faces[rng.randrange(FACES)] = file
             return file
         if kind < 0.15:
-            return face_maker.noise(rng)
+            return random_faces.noise(rng)
         return mutated(rng, self.faces)
 
 
 # Files for the first block: empty ones, and ones that end where the part that `faces` reads does, or a pipe's room.
 ODD = [b"", b"F", bytes(4095), bytes(4096), bytes(4097)]
-ODD += [face_maker.face(random.Random(length)) + bytes(length) for length in (1, 4096, 8000)]
+ODD += [random_faces.face(random.Random(length)) + bytes(length) for length in (1, 4096, 8000)]
 
 
 # ---------------------------------------------------------------------------------------------------------------
@@ -119,7 +115,7 @@ ODD += [face_maker.face(random.Random(length)) + bytes(length) for length in (1,
 def run_file(file):
     """What `faces` prints for a file, or what is wrong with its run."""
     try:
-        done = subprocess.run([BIN / "faces"], input=file, capture_output=True, timeout=FILE_SECONDS, close_fds=False)
+        done = subprocess.run([FACES_PROGRAM], input=file, capture_output=True, timeout=FILE_SECONDS, close_fds=False)
     except subprocess.TimeoutExpired:
         return "no end\n"
     if done.returncode != 0 or done.stderr:
@@ -138,11 +134,16 @@ def run_faces(files, texts):
     return wrong
 
 
+def cases_of(rng, name, file):
+    """The file, which the reader answers, and two calls on it."""
+    text = case.text_case(f"{name}, text", file, case.TEXT)
+    return [case.file_case(name, file), text, rng.choice(CALLS)(rng, f"{name}, call", file)]
+
+
 def run_calls(rng, files):
     """How many of the cases that are made of the files differ."""
-    cases = [run_cases.text_case(file, run_cases.TEXT) for file in files]
-    cases += [rng.choice(CALLS)(rng, file) for file in files]
-    return run_cases.different(cases, run_cases.run(BIN / "cases", [case.text for case in cases], BLOCK_SECONDS))
+    cases = [made for i, file in enumerate(files) for made in cases_of(rng, str(i), file)]
+    return running.different(cases, running.run(running.PROGRAM, cases, BLOCK_SECONDS))
 
 
 def forget():
@@ -176,7 +177,7 @@ def main():
         by_calls += run_calls(rng, files)
         forget()
     print(", ".join(f"{kind}: {kinds[kind]}" for kind in sorted(kinds)))
-    print(f"{given.files} files through faces, {by_faces} differ; {2 * given.files} cases of them, {by_calls} differ")
+    print(f"{given.files} files through faces, {by_faces} differ; {3 * given.files} cases of them, {by_calls} differ")
     sys.exit(1 if by_faces + by_calls else 0)
 
 

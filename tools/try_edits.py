@@ -1,11 +1,11 @@
 #!/usr/bin/env python3
-"""Runs the wrong programs of crates/*/must-fail, and says which stored tests see that they are wrong.
+"""Runs the wrong programs of crates/*/must-fail, and says whether the stored cases see that they are wrong.
 
     python3 tools/try_edits.py [CRATE/NAME...]
 
-The gate has the prover refuse each of them. Here each that edits code is compiled without a proof (`rt try`) and run on
-the stored cases of the test programs, until one writes something else than it should. It exits 1 where a wrong program
-passes all of them: then a stored test is missing.
+The gate has the prover refuse each of them. Here each that edits code is compiled into the program `cases` without a proof
+(`rt try`), which is run on its stored cases. It exits 1 where a wrong program writes what it should: then a stored case is
+missing.
 """
 
 import pathlib
@@ -15,7 +15,7 @@ import sys
 import tempfile
 
 ROOT = pathlib.Path(__file__).resolve().parent.parent
-PROGRAMS = ["cases", "fit_cases", "list_cases", "face_cases", "text_cases"]
+PROGRAM = "cases"
 RIGHT = "ok: the native program at -O3 ended and wrote what is expected"
 
 
@@ -36,19 +36,19 @@ def applied(text, changes):
     return text
 
 
-def is_right(folder, program):
-    """Whether a program, compiled without a proof, writes what is stored."""
-    done = subprocess.run(["rt", "try", program], cwd=folder, capture_output=True, text=True, timeout=300)
+def is_right(folder):
+    """Whether the program, compiled without a proof, writes what is stored."""
+    done = subprocess.run(["rt", "try", PROGRAM], cwd=folder, capture_output=True, text=True, timeout=300)
     return RIGHT in done.stdout
 
 
-def seen_by(folder, crate, edit):
-    """The first test program that sees the edit, or None."""
+def is_seen(folder, crate, edit):
+    """Whether the stored cases see an edit."""
     name, changes = edits(edit)
     file = folder / "crates" / crate / name
     right = file.read_text()
     file.write_text(applied(right, changes))
-    seen = next((program for program in PROGRAMS if not is_right(folder, program)), None)
+    seen = not is_right(folder)
     file.write_text(right)
     return seen
 
@@ -59,18 +59,17 @@ def main():
     with tempfile.TemporaryDirectory() as temporary:
         folder = pathlib.Path(temporary) / "repository"
         shutil.copytree(ROOT, folder, ignore=shutil.ignore_patterns("target", ".git"))
-        wrong = [program for program in PROGRAMS if not is_right(folder, program)]
-        if wrong:
-            sys.exit(f"without any edit these write something else than is stored: {', '.join(wrong)}")
+        if not is_right(folder):
+            sys.exit(f"without any edit {PROGRAM} writes something else than is stored")
         for edit in sorted((ROOT / "crates").glob("*/must-fail/*.edit")):
             crate = edit.parent.parent.name
             label = f"{crate}/{edit.stem}"
             if (wanted and label not in wanted) or not edits(edit)[0].startswith("src/"):
                 continue
-            seen = seen_by(folder, crate, edit)
+            seen = is_seen(folder, crate, edit)
             ran += 1
-            unseen += seen is None
-            print(f"{label}: {'seen by ' + seen if seen else 'NOT SEEN'}", flush=True)
+            unseen += not seen
+            print(f"{label}: {'seen' if seen else 'NOT SEEN'}", flush=True)
     print(f"{ran} wrong programs ran, {unseen} not seen")
     sys.exit(1 if unseen else 0)
 

@@ -1,12 +1,21 @@
-// What the calls give on cases from standard input. tools/run_cases.py makes the cases, and what is expected of each.
+// What the calls give on cases from standard input. tools/make_cases.py makes the stored cases, and tools/run_cases.py any
+// number of others, each with what is expected of it.
 //
-// A case is a line of six digits, the number of bytes that follow, at most 65,536; and so many bytes of text:
+// A case is a line: six digits, the number of bytes after the blank that follows them, at most 65,536; then that blank and
+// so many bytes. They end with the line's end, and have one of two forms:
 //
-//     CALL FILE LEVELS HEIGHT WIDTH ARENA SCRATCH OUTPUT
+//     NAME: F FILE
+//     NAME: CALL LEVELS HEIGHT WIDTH ARENA SCRATCH OUTPUT
 //
-// CALL is one letter. FILE and LEVELS are bytes in hexadecimal, of lower case, and may be empty. The others are
-// decimal: the opening, and how many words of each buffer the call is lent, at most 16,400, 16,400 and 904. One sign
-// stands between two. A case may end after any of them, and those that it leaves out are 0.
+// NAME has no colon. It is printed with its colon, and after it what the case gives.
+//
+// F gives the file of the cases that follow, and prints what facefile::read answers of it: its number, and the counts of
+// gauges and of sizes.
+//
+// CALL is one letter, of a call on that file. FILE and LEVELS are bytes in hexadecimal, of lower case, and may be empty;
+// 01*3 is 010101, and 01*3,02 is 01010102. The others are decimal: the opening, and how many words of each buffer the call
+// is lent, at most 16,400, 16,400 and 904. One sign stands between two. A case may end after any of them, and those that
+// it leaves out are 0.
 //
 //     l   the list call
 //     f   the fit call
@@ -14,59 +23,80 @@
 //     g   the gauge-bytes call, of gauge HEIGHT
 //     t   the text of `faces`, in a buffer of OUTPUT bytes, at most 13,700
 //     r   the reading call, of place WIDTH, on the first ARENA words of an arena that is made so: each word is HEIGHT;
-//         then the list call is made on FILE and LEVELS, which leaves the arena where it refuses them; then words are
+//         then the list call is made on the file and LEVELS, which leaves the arena where it refuses them; then words are
 //         replaced. After OUTPUT come numbers with a sign before each: @I goes to word I, and a blank and a number
 //         puts the number there and goes on to the next word.
 //     d   the list call, and then the first ARENA words of its arena
 //
-// Each case starts with the line `-`. Before a call each word of a lent buffer is 2,863,311,530. The list and fit calls
-// print their number and fields; where they are taken, the output's words and whether those after are as they were; the
-// record, level, m and true p of each item of the arena's list, m and p as the reading call gives them, and the number
-// with which that call ends the list; and of a refusal whether each buffer is as it was.
+// Before a call each word of a lent buffer is 2,863,311,530. The list and fit calls print their number and fields; where
+// they are taken, the output's words and whether those after are as they were; the record, level, m and true p of each
+// item of the arena's list, m and p as the reading call gives them, and the numbers with which that call refuses place 0
+// and the place after the last; and of a refusal whether each buffer is as it was.
+mod arena;
 mod calls;
-mod input;
+mod case;
+mod fitting;
+mod hex;
+mod kept;
+mod listing;
+mod number;
 mod print;
+mod rooms;
 mod shown;
 
 ghost use Prim.Native.Nat.{_≤_};
+use crate::number::at_most;
+use crate::number::number_at;
 use libc::STDIN_FILENO;
 
 // The most cases of a run. A loop has to end, and an input need not.
 const CASES: u64 = 1_000_000_000;
 
-// Reads the text of a case, as many bytes as there is room for, and makes its call.
-fn show_read(room: &mut [u8]) {
-    showing::print::put(b"-\n");
-    let got = io::read_full(STDIN_FILENO, room);
-    calls::show_case(&room[..got]);
-}
+// The most bytes of a case.
+const MOST: usize = 65_536;
 
-// The same for a case of so many bytes.
-fn show_sized(bytes: usize)
-    requires { ⌜ bytes ≤ 65_536 ⌝ }
+// The number of bytes of the next case, and 0 where the input has ended.
+fn next_length() -> usize
+    ensures { λ r. ⌜ r ≤ 65_536 ⌝ }
 {
-    let mut room = io::large_buffer();
-    show_read(&mut room[..bytes]);
-}
-
-// Reads a case and makes its call. Answers whether there was one.
-fn show_next() -> bool {
     let mut head = [0u8; 7];
     let got = io::read_full(STDIN_FILENO, &mut head);
     if got < 7 {
-        return false;
+        return 0;
     }
-    let bytes = showing::number::number_at(&head, 0).value;
-    show_sized(input::at_most(bytes, 65_536));
-    true
+    at_most(number_at(&head, 0).value, MOST)
+}
+
+// Reads a case, as many bytes as there is room for, and shows what it gives. The file that is lent has so many bytes, and
+// the answer is how many it has then.
+fn show_read(room: &mut [u8], file: &mut [u8], bytes: usize) -> usize {
+    let got = io::read_full(STDIN_FILENO, room);
+    case::show_case(&room[..got], file, bytes)
+}
+
+// The same for a case of a length.
+fn show_sized(length: usize, file: &mut [u8], bytes: usize) -> usize
+    requires { ⌜ length ≤ 65_536 ⌝ }
+{
+    let mut room = io::large_buffer();
+    show_read(&mut room[..length], file, bytes)
+}
+
+// All cases, with room for a file.
+fn show_cases(file: &mut [u8]) {
+    let mut bytes = 0;
+    let mut done = 0;
+    while done < CASES {
+        let length = next_length();
+        if length == 0 {
+            return;
+        }
+        bytes = show_sized(length, file, bytes);
+        done += 1;
+    }
 }
 
 fn main() {
-    let mut done = 0;
-    while done < CASES {
-        if !show_next() {
-            return;
-        }
-        done += 1;
-    }
+    let mut file = io::large_buffer();
+    show_cases(&mut file);
 }

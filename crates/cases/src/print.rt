@@ -1,5 +1,34 @@
-// Bytes as text on standard output.
+// Numbers and bytes as text on standard output.
 use libc::STDOUT_FILENO;
+
+pub fn put(text: &[u8]) {
+    io::write_all(STDOUT_FILENO, text);
+}
+
+fn put_number(number: u64) {
+    io::print_decimal(STDOUT_FILENO, number);
+}
+
+// A word in decimal, after a separator.
+pub fn put_word(separator: &[u8], word: u32) {
+    put(separator);
+    put_number(word as u64);
+}
+
+// A count in decimal, after a separator.
+pub fn put_count(separator: &[u8], count: usize) {
+    put(separator);
+    put_number(count as u64);
+}
+
+// Words, with a blank before each.
+pub fn put_row(words: &[u32]) {
+    let mut i = 0;
+    while i < words.len() {
+        put_word(b" ", words[i]);
+        i += 1;
+    }
+}
 
 fn put_byte(byte: u8) {
     io::print_hex(STDOUT_FILENO, byte as u64, 2);

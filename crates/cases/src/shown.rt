@@ -1,29 +1,14 @@
 // What a call left in its buffers.
-use showing::kept::is_blank;
-use showing::kept::is_untouched;
-use showing::kept::put_kept;
-use showing::list::put_reading;
-use showing::list::word;
-use showing::print::put;
-use showing::print::put_row;
-use showing::print::put_word;
+use crate::arena::word;
+use crate::kept::is_blank;
+use crate::kept::is_untouched;
+use crate::kept::put_kept;
+use crate::print::put;
+use crate::print::put_row;
+use crate::print::put_word;
 
-// The most items of a list.
-const ITEMS: u32 = 512;
-
-// Whether each of three buffers is as it was.
-pub fn show_all_kept(arena: &[u32], scratch: &[u32], output: &[u32]) {
-    put_kept(b"arena", is_untouched(arena));
-    put_kept(b" scratch", is_untouched(scratch));
-    put_kept(b" output", is_untouched(output));
-    put(b"\n");
-}
-
-// Whether the output is as it was.
-pub fn show_output_kept(output: &[u32]) {
-    put_kept(b"output", is_untouched(output));
-    put(b"\n");
-}
+// One more than the most items of a list.
+const PLACES: u32 = 513;
 
 // So many words of the output, and whether those after them are as they were.
 pub fn show_output(output: &[u32], words: usize) {
@@ -48,13 +33,28 @@ pub fn show_text(text: &[u8], length: usize) {
     put(b"\n");
 }
 
+// The m that a record has, where it is not the one that was read.
+fn put_other_m(m: u32, read: u32) {
+    if m != read {
+        put_word(b" but m ", m);
+    }
+}
+
 // An item of a list: its record with its level, and what the reading call gives of it.
 fn put_item(arena: &[u32], record: u32, reading: maxplus::Reading) {
     put_word(b" ", record);
     put_word(b" ", word(arena, record, 0));
     put_word(b" ", reading.m);
     put_word(b" ", reading.p);
+    put_other_m(word(arena, record, 1), reading.m);
     put(b",");
+}
+
+// The line's end of a list: with which numbers the reading call refuses place 0, and the place after the last.
+fn put_ends(arena: &[u32], last: u32) {
+    put_word(b" ends ", maxplus::read(arena, 0).number);
+    put_word(b" ", last);
+    put(b"\n");
 }
 
 // The list in an arena, in a line.
@@ -62,18 +62,17 @@ pub fn show_list(arena: &[u32]) {
     put(b"list");
     let mut record = word(arena, 0, 3);
     let mut place = 1;
-    while place <= ITEMS {
+    while place <= PLACES {
         let reading = maxplus::read(arena, place);
         if reading.number != 0 {
-            put_word(b" end ", reading.number);
-            put(b"\n");
+            put_ends(arena, reading.number);
             return;
         }
         put_item(arena, record, reading);
         record = word(arena, record, 3);
         place += 1;
     }
-    put(b" end\n");
+    put(b" no end\n");
 }
 
 // The first words of an arena, in a line.
@@ -87,11 +86,20 @@ pub fn show_words(arena: &[u32], words: usize) {
     put(b"\n");
 }
 
-// What the reading call gives at a place of an arena of so many words.
+// What the reading call gives at a place.
+fn put_reading(arena: &[u32], place: u32) {
+    let reading = maxplus::read(arena, place);
+    put_word(b"read ", reading.number);
+    put_word(b" ", reading.m);
+    put_word(b" ", reading.p);
+    put(b"\n");
+}
+
+// The same of an arena of so many words.
 pub fn show_reading(arena: &[u32], words: usize, place: u32) {
     if words > arena.len() {
         put(b"arena too short\n");
         return;
     }
-    put_reading(b"read ", &arena[..words], place);
+    put_reading(&arena[..words], place);
 }

@@ -3,6 +3,7 @@ use native.Mathlib.Omega.{arith}
 use mathlib.Core.Path.{sym}
 use lib.Seq.{length-take-le}
 use borrow.Author.Needs.{needs}
+use borrow.Author.Needs.{needs}
 use Rattle.cases.proofs.show_sized.Statement.{statement}
 use Rattle.cases.proofs.show_sized.Tie as tie
 
@@ -18,6 +19,9 @@ slice-aggregate-show-read c = sym (length-take-le _ _ (omega arith))
 show-read-requires : tie.Need-show-read-requires
 show-read-requires c κs = search needs
 
+same-length : tie.Need-same-length
+same-length c = search needs
+
 returns : tie.Need-returns
 returns c = search needs
 
@@ -29,4 +33,5 @@ show-sized-spec =
     array-borrow-prefix-room
     slice-aggregate-show-read
     show-read-requires
+    same-length
     returns)

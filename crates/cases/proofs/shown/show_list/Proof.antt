@@ -6,10 +6,10 @@ use Rattle.cases.proofs.shown.show_list.Statement.{statement}
 use Rattle.cases.proofs.shown.show_list.Tie as tie
 
 abbrev Inv-loop : tie.InvT-loop
-Inv-loop arena record₀ place₀ t6 t7 t8 «record» place = Unit {0}
+Inv-loop arena record₀ place₀ t6 «record» place = Unit {0}
 
 abbrev μ-loop : tie.MeasureT-loop
-μ-loop arena record₀ place₀ t6 t7 t8 «record» place = 513 - place
+μ-loop arena record₀ place₀ t6 «record» place = 514 - place
 
 slice-aggregate-put : tie.Need-slice-aggregate-put Inv-loop μ-loop
 slice-aggregate-put c = search needs
@@ -26,17 +26,8 @@ loop-holds c = search needs
 read-requires : tie.Need-read-requires Inv-loop μ-loop
 read-requires c κs = search needs
 
-slice-aggregate-put-word : tie.Need-slice-aggregate-put-word Inv-loop μ-loop
-slice-aggregate-put-word c = search needs
-
-put-word-requires : tie.Need-put-word-requires Inv-loop μ-loop
-put-word-requires c κs = search needs
-
-slice-aggregate-put-2 : tie.Need-slice-aggregate-put-2 Inv-loop μ-loop
-slice-aggregate-put-2 c = search needs
-
-put-requires-2 : tie.Need-put-requires-2 Inv-loop μ-loop
-put-requires-2 c κs = search needs
+put-ends-requires : tie.Need-put-ends-requires Inv-loop μ-loop
+put-ends-requires c κs = search needs
 
 returns : tie.Need-returns Inv-loop μ-loop
 returns c = search needs
@@ -56,11 +47,11 @@ loop-less c = search needs
 loop-again : tie.Need-loop-again Inv-loop μ-loop
 loop-again c = search needs
 
-slice-aggregate-put-3 : tie.Need-slice-aggregate-put-3 Inv-loop μ-loop
-slice-aggregate-put-3 c = search needs
+slice-aggregate-put-2 : tie.Need-slice-aggregate-put-2 Inv-loop μ-loop
+slice-aggregate-put-2 c = search needs
 
-put-requires-3 : tie.Need-put-requires-3 Inv-loop μ-loop
-put-requires-3 c κs = search needs
+put-requires-2 : tie.Need-put-requires-2 Inv-loop μ-loop
+put-requires-2 c κs = search needs
 
 returns-2 : tie.Need-returns-2 Inv-loop μ-loop
 returns-2 c = search needs
@@ -76,16 +67,13 @@ show-list-spec =
     word-requires
     loop-holds
     read-requires
-    slice-aggregate-put-word
-    put-word-requires
-    slice-aggregate-put-2
-    put-requires-2
+    put-ends-requires
     returns
     put-item-requires
     word-requires-2
     add-place
     loop-less
     loop-again
-    slice-aggregate-put-3
-    put-requires-3
+    slice-aggregate-put-2
+    put-requires-2
     returns-2)

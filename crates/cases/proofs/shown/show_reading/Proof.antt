@@ -16,10 +16,7 @@ returns : tie.Need-returns
 returns c = search needs
 
 slice-aggregate-put-reading : tie.Need-slice-aggregate-put-reading
-slice-aggregate-put-reading c = search needs
-
-slice-aggregate-put-reading-2 : tie.Need-slice-aggregate-put-reading-2
-slice-aggregate-put-reading-2 c = sym (length-take-le _ _ (omega arith))
+slice-aggregate-put-reading c = sym (length-take-le _ _ (omega arith))
 
 put-reading-requires : tie.Need-put-reading-requires
 put-reading-requires c κs = search needs
@@ -35,6 +32,5 @@ show-reading-spec =
     put-requires
     returns
     slice-aggregate-put-reading
-    slice-aggregate-put-reading-2
     put-reading-requires
     returns-2)

@@ -1,0 +1,75 @@
+// One case: its name, and its file or its call.
+ghost use Prim.Native.Nat.{_≤_};
+ghost use lib.ListN.{length};
+use crate::calls::call;
+use crate::hex::decode;
+use crate::number::numbers_at;
+use crate::print::put;
+use crate::print::put_count;
+use crate::print::put_word;
+use crate::rooms::levels_room;
+
+// The place after the colon of a name, or the end of a text that has none.
+fn name_end(text: &[u8]) -> usize
+    ensures { λ r. ⌜ r ≤ length (now (text .entry)) ⌝ }
+{
+    let mut at = 0;
+    while at < text.len() {
+        if text[at] == b':' {
+            return at + 1;
+        }
+        at += 1;
+    }
+    at
+}
+
+// What the reader of face files answers.
+fn show_face(face: facefile::Face) {
+    put_word(b"face ", face.number);
+    put_count(b" ", face.gauges);
+    put_count(b" ", face.sizes);
+    put(b"\n");
+}
+
+// Takes the file that stands at a place of a text, and shows what the reader says of it. Answers how many bytes it has.
+fn take_file(text: &[u8], start: usize, file: &mut [u8]) -> usize
+    requires { ⌜ start ≤ length (now text) ⌝ }
+{
+    let decoded = decode(text, start, file);
+    let bytes = decoded.length;
+    show_face(facefile::read(&file[..bytes]));
+    bytes
+}
+
+// Makes the call of a letter, with what stands at a place of a text.
+fn make_call(letter: u8, text: &[u8], start: usize, file: &[u8])
+    requires { ⌜ start ≤ length (now text) ⌝ }
+{
+    let mut levels = levels_room();
+    let decoded = decode(text, start, &mut levels);
+    let count = decoded.length;
+    let numbers = numbers_at(text, decoded.end);
+    call(letter, text, file, &mut levels[..count], numbers);
+}
+
+// What a case gives. The file that is lent has so many bytes, and the answer is how many it has then.
+pub fn show_case(text: &[u8], file: &mut [u8], bytes: usize) -> usize {
+    let end = name_end(text);
+    put(&text[..end]);
+    put(b" ");
+    if text.len() - end < 3 {
+        put(b"no case\n");
+        return bytes;
+    }
+    let letter = text[end + 1];
+    let start = end + 3;
+    if letter == b'F' {
+        return take_file(text, start, file);
+    }
+    if bytes > file.len() {
+        put(b"no file\n");
+        return bytes;
+    }
+    make_call(letter, text, start, &file[..bytes]);
+    bytes
+}

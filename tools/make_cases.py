@@ -1,0 +1,91 @@
+#!/usr/bin/env python3
+"""Writes crates/cases/stdin and stdout: the stored cases of every call, each with its name, and what is expected of them.
+
+    python3 tools/make_cases.py            writes them
+    python3 tools/make_cases.py --check    writes nothing, and says whether they are as it would write them
+
+tools/making/ has the files: for the reader and the levels (face_files.py), the list call (list_files.py), the fit call
+(fit_files.py), the text of `faces` (text_files.py); the calls that are made on each file (calls.py); the arenas of the
+reading call (arenas.py); and pseudo-random cases (random_cases.py). What is expected comes from the models. It stops
+where they and an answer that was worked out by hand differ.
+"""
+
+import collections
+import pathlib
+import sys
+
+sys.dont_write_bytecode = True
+
+from making import arenas, calls, face_files, fit_files, list_files, random_cases, text_files
+
+FOLDER = pathlib.Path(__file__).resolve().parent.parent / "crates" / "cases"
+SETS = [face_files, list_files, fit_files, text_files]
+
+# How many pseudo-random cases are stored, and where their row starts.
+RANDOM = 300
+SEED = 7
+
+
+def faults():
+    return [fault for module in SETS + [arenas] for fault in module.faults()]
+
+
+def names():
+    """The name of each file. One that stands in two modules is stored once, under the first name that it has."""
+    found = {}
+    for module in SETS:
+        for stored in module.FILES:
+            found.setdefault(stored.file, stored.name)
+    return found
+
+
+def file_cases():
+    """The cases of each file."""
+    listed = {stored.file for stored in list_files.FILES}
+    fitted = {stored.file: fit_files.openings(stored) for stored in fit_files.FILES}
+    printed = {stored.file for stored in text_files.FILES}
+    refused = {stored.file for module in SETS for stored in module.FILES if stored.number != 0}
+    found = []
+    for file, name in names().items():
+        found += calls.reader_calls(name, file)
+        if file in refused:
+            found += calls.refused_calls(name, file)
+            continue
+        if file in listed:
+            found += calls.list_calls(name, file)
+        if file in fitted:
+            found += calls.fit_calls(name, file, fitted[file])
+        if file in printed:
+            found += calls.text_calls(name, file)
+    return found
+
+
+def all_cases():
+    return file_cases() + arenas.cases() + random_cases.stored(RANDOM, SEED)
+
+
+def stop_at(faults):
+    if faults:
+        sys.exit("\n".join(faults))
+
+
+def main():
+    stop_at(faults())
+    cases = all_cases()
+    found = collections.Counter(case.name for case in cases)
+    stop_at([f"{name}: two cases have this name" for name, times in found.items() if times > 1])
+    stored = {
+        FOLDER / "stdin": "".join(case.line() for case in cases).encode(),
+        FOLDER / "stdout": "".join(case.answer() for case in cases).encode(),
+    }
+    if "--check" in sys.argv[1:]:
+        stop_at([f"{path}: not as this script writes it" for path, text in stored.items() if path.read_bytes() != text])
+        print(f"{len(cases)} cases: the files are as this script writes them")
+        return
+    for path, text in stored.items():
+        path.write_bytes(text)
+    print(f"{len(cases)} cases on {len(names())} files written")
+
+
+if __name__ == "__main__":
+    main()

@@ -1,0 +1,162 @@
+"""The calls that are made on each stored file. A call is given what a right one is, but for what its name says."""
+
+from making.case import LONGER, TEXT, TEXT_LEAST, file_case, fit_case, gauge_case, levels_case, list_case, text_case
+from models import face_model, fit_model, list_model
+
+WORDS = list_model.WORDS
+SHORT = WORDS - 1
+LARGEST = fit_model.OPENING
+
+
+def scattered(size):
+    """The level of a size in a table that follows no rule that a list could use."""
+    return 1 + 181 * (size % 509) % 509 % 8
+
+
+class Levels:
+    """Tables of levels for a face of so many sizes."""
+
+    def __init__(self, file, sizes):
+        self.ones = [1] * sizes
+        self.eights = [8] * sizes
+        self.own = face_model.fill_levels(file, sizes)[1]
+        self.scattered = [scattered(size) for size in range(1, sizes + 1)]
+        self.last_9 = self.ones[:-1] + [9]
+
+    def wrong(self):
+        """Levels that are refused by 14 or 15, by their names."""
+        return {
+            "one level less": self.ones[:-1],
+            "one level more": self.ones + [1],
+            "no levels": [],
+            "first level 0": [0] + self.ones[1:],
+            "last level 0": self.ones[:-1] + [0],
+            "first level 9": [9] + self.ones[1:],
+            "last level 9": self.last_9,
+        }
+
+
+# ---------------------------------------------------------------------------------------------------------------
+# The reader, gauge bytes, levels
+
+
+def gauges_shown(count):
+    """The gauges whose bytes are asked for: where they are few all from 0, else the first and the last, and the next
+    number, which no gauge has."""
+    return range(count + 2) if count <= 4 else (1, count, count + 1)
+
+
+def reader_calls(name, file):
+    """The calls on every file."""
+    if face_model.number_of(file) != 0:
+        lengths, gauges = [8], [1]
+    else:
+        face = face_model.read(file)
+        sizes = face.size_count()
+        lengths, gauges = [sizes, sizes + 1, sizes - 1], gauges_shown(face.gauge_count())
+    return (
+        [file_case(name, file)]
+        + [gauge_case(f"{name}, gauge {gauge}", file, gauge) for gauge in gauges]
+        + [levels_case(f"{name}, a buffer of {length} levels", file, length) for length in lengths]
+    )
+
+
+# ---------------------------------------------------------------------------------------------------------------
+# The list call
+
+
+def list_calls(name, file):
+    """The calls on a face: under each table of levels, those that are refused by 14 to 18, and which no is first."""
+    face = face_model.read(file)
+    sizes, need = face.size_count(), list_model.output_words(face)
+    levels = Levels(file, sizes)
+    found = []
+
+    def call(what, table=levels.ones, arena=WORDS, scratch=WORDS, output=need):
+        found.append(list_case(f"{name}, list, {what}", file, table, arena, scratch, output))
+
+    call("all 1, exact output")
+    call("all 8", levels.eights, output=need + 4)
+    call("own", levels.own, output=need + 4)
+    call("scattered, longer buffers", levels.scattered, LONGER, LONGER, need + 4)
+    for what, table in levels.wrong().items():
+        call(what, table)
+    call("short arena", arena=SHORT)
+    call("short scratch", scratch=SHORT)
+    call("short output", output=need - 1)
+    call("no arena", arena=0)
+    call("no scratch", scratch=0)
+    call("no output", output=0)
+    call("14 to 18 fail", [9] * (sizes + 1), SHORT, SHORT, need - 1)
+    call("15 to 18 fail", levels.last_9, SHORT, SHORT, need - 1)
+    call("17 and 18 fail", levels.ones, SHORT, SHORT, need - 1)
+    return found
+
+
+# ---------------------------------------------------------------------------------------------------------------
+# The fit call
+
+
+def opening_word(opening):
+    height, width = opening
+    return f"{height}x{width}"
+
+
+def fit_calls(name, file, openings):
+    """The calls on a face: under each table of levels, those that are refused by 14 to 18, which no is first, and those
+    with some openings under document 01's own levels."""
+    face = face_model.read(file)
+    sizes, need = face.size_count(), fit_model.output_words(face)
+    levels = Levels(file, sizes)
+    found = []
+
+    def call(what, table=levels.ones, opening=(LARGEST, LARGEST), arena=WORDS, scratch=WORDS, output=need):
+        found.append(fit_case(f"{name}, fit, {what}", file, table, *opening, arena, scratch, output))
+
+    call("all 1, exact output")
+    call("all 8", levels.eights, output=need + 4)
+    call("own", levels.own, output=need + 4)
+    call("scattered, longer buffers", levels.scattered, arena=LONGER, scratch=LONGER, output=need + 4)
+    call("scattered, 1 by 1", levels.scattered, (1, 1), output=need + 4)
+    for what, table in levels.wrong().items():
+        call(what, table)
+    for length in (0, 64001, 65536, 4294967295):
+        call(f"height {length}", opening=(length, LARGEST))
+        call(f"width {length}", opening=(LARGEST, length))
+    call("0 by 64001", opening=(0, 64001))
+    call("short arena", arena=SHORT)
+    call("short scratch", scratch=SHORT)
+    call("short output", output=need - 1)
+    call("no arena", arena=0)
+    call("no scratch", scratch=0)
+    call("no output", output=0)
+    call("14 to 18 fail", [9] * (sizes + 1), (0, 0), SHORT, SHORT, need - 1)
+    call("15 to 18 fail", levels.last_9, (0, 0), SHORT, SHORT, need - 1)
+    call("16 to 18 fail", levels.ones, (64001, 1), SHORT, SHORT, need - 1)
+    call("17 to 19 fail", levels.ones, (1, 1), SHORT, SHORT, need - 1)
+    call("18 and 19 fail", levels.ones, (1, 1), output=need - 1)
+    for opening in openings:
+        call(opening_word(opening), levels.own, opening, output=need + 4)
+    return found
+
+
+# ---------------------------------------------------------------------------------------------------------------
+# Texts, and refused files
+
+
+def text_calls(name, file):
+    """The text of `faces` in buffers just long enough, one byte shorter, longer, and empty."""
+    rooms = {"": TEXT_LEAST, ", a byte too short": TEXT_LEAST - 1, ", longer": TEXT, ", no buffer": 0}
+    return [text_case(f"{name}, text{what}", file, room) for what, room in rooms.items()]
+
+
+def refused_calls(name, file):
+    """Each call on a file that the reader refuses: with levels, an opening and buffers that are right, and with all that
+    can be wrong."""
+    return [
+        list_case(f"{name}, list, 1 level", file, [1], WORDS, WORDS, 4),
+        list_case(f"{name}, list, all fail", file, [9, 9], SHORT, SHORT, 0),
+        fit_case(f"{name}, fit, 1 level", file, [1], LARGEST, LARGEST, WORDS, WORDS, 5),
+        fit_case(f"{name}, fit, all fail", file, [9, 9], 0, 0, SHORT, SHORT, 0),
+        text_case(f"{name}, text", file, TEXT_LEAST),
+    ]

@@ -1,0 +1,147 @@
+"""A case of the program `cases`: what it is given, and what it is to print, by the models. crates/cases/src/main.rt has the
+form of both."""
+
+import dataclasses
+import itertools
+
+from models import face_model, fit_model, list_model, read_model, text_model
+
+# The rooms that the program has for a case, an arena or a scratch, an output and a text; and the least of a text that the
+# call takes.
+CASE = 65_536
+LONGER = list_model.WORDS + 16
+OUTPUT = 904
+TEXT = 13_700
+TEXT_LEAST = 13_645
+
+# What a buffer of levels holds before the levels call.
+BLANK = 170
+
+
+@dataclasses.dataclass
+class Case:
+    """A case by its name: what stands after the name in the program's input, and in its output."""
+
+    name: str
+    given: str
+    wanted: str
+
+    def line(self):
+        """The case in the program's input."""
+        text = f"{self.name}: {self.given}\n"
+        assert ":" not in self.name and len(text) <= CASE
+        return f"{len(text):06} {text}"
+
+    def answer(self):
+        """The case in the program's output."""
+        return f"{self.name}: {self.wanted}"
+
+
+def hexadecimal(data):
+    """Bytes as a case has them. A byte that stands four times or more is written once."""
+    runs = [(byte, len(list(same))) for byte, same in itertools.groupby(bytes(data))]
+    short = [f"{byte:02x}*{times}," if times >= 4 else f"{byte:02x}" * times for byte, times in runs]
+    return "".join(short).removesuffix(",")
+
+
+def given(letter, levels=b"", *numbers, after=""):
+    """What a call is given: its letter, the levels, the numbers of which those at the end that are 0 are left out, and what
+    stands after them."""
+    shown = list(numbers)
+    while shown and shown[-1] == 0 and not after:
+        shown.pop()
+    return " ".join([letter, hexadecimal(levels), *map(str, shown)]) + after
+
+
+def lines(*found):
+    return "".join(line + "\n" for line in found)
+
+
+def row(words):
+    return "".join(f" {word}" for word in words)
+
+
+# ---------------------------------------------------------------------------------------------------------------
+# The calls
+
+
+def file_case(name, file):
+    """The file of the cases that follow, and what the reader answers."""
+    number, gauges, sizes = face_model.number_of(file), 0, 0
+    if number == 0:
+        face = face_model.read(file)
+        gauges, sizes = face.gauge_count(), face.size_count()
+    return Case(name, f"F {hexadecimal(file)}", lines(f"face {number} {gauges} {sizes}"))
+
+
+def gauge_case(name, file, gauge):
+    return Case(name, given("g", b"", gauge), lines(f"gauge {face_model.gauge_bytes(file, gauge).hex()}"))
+
+
+def levels_case(name, file, length):
+    """The levels call, lent a buffer of so many bytes."""
+    before = [BLANK] * length
+    number, filled = face_model.fill_levels(file, length)
+    after = bytes(before if filled is None else filled)
+    return Case(name, given("v", before), lines(f"levels {number} {after.hex()}"))
+
+
+def list_line(walked):
+    """The list in an arena, item by item, and what the reading call answers just before it and just after."""
+    items = "".join(f" {item.record} {item.level} {item.m} {item.p}," for item in walked)
+    before, after = (list_model.read_call(walked, place)[0] for place in (0, len(walked) + 1))
+    return f"list{items} ends {before} {after}"
+
+
+ALL_KEPT = "arena kept scratch kept output kept"
+
+
+def list_case(name, file, levels, arena, scratch, output):
+    listed = list_model.list_call(file, levels, arena, scratch, output)
+    answer = f"list {listed.number} {len(listed.items)}"
+    if listed.number == 0:
+        words = [word for item in listed.items for word in (item.height, item.width)]
+        wanted = lines(answer, f"output{row(words)} rest kept", list_line(listed.walked))
+    else:
+        wanted = lines(answer, ALL_KEPT)
+    return Case(name, given("l", levels, 0, 0, arena, scratch, output), wanted)
+
+
+def fit_case(name, file, levels, height, width, arena, scratch, output):
+    fitted = fit_model.fit_call(file, levels, height, width, arena, scratch, output)
+    answer = "fit" + row(fitted.fields())
+    if fitted.number == 0:
+        wanted = lines(answer, f"output{row(fitted.words)} rest kept", list_line(fitted.walked))
+    elif fitted.number == 19:
+        wanted = lines(answer, "output kept", list_line(fitted.walked))
+    else:
+        wanted = lines(answer, ALL_KEPT)
+    return Case(name, given("f", levels, height, width, arena, scratch, output), wanted)
+
+
+def text_case(name, file, room):
+    """The text of `faces`, in a buffer of so many bytes."""
+    text = text_model.text_of(file) if room >= TEXT_LEAST else ""
+    return Case(name, given("t", b"", 0, 0, 0, 0, room), "text\n" + text + "rest kept\n")
+
+
+def replaced(words):
+    """The words that a case puts into an arena, by their places."""
+    found = ""
+    expected = None
+    for place in sorted(words):
+        found += ("" if place == expected else f"@{place}") + f" {words[place]}"
+        expected = place + 1
+    return found
+
+
+def read_case(name, arena, place, words, levels=b""):
+    """The reading call on an arena. These are the words of it that the case replaces: the model's has them already."""
+    number, m, p = read_model.read_call(arena, place)
+    text = given("r", levels, arena.fill, place, arena.length, 0, 0, after=replaced(words))
+    return Case(name, text, lines(f"read {number} {m} {p}"))
+
+
+def words_case(name, levels, length):
+    """So many words of the arena that the list call leaves. Some of them are free, so nothing is expected."""
+    return Case(name, given("d", levels, 0, 0, length), "")
