@@ -20,7 +20,8 @@ import subprocess
 import sys
 
 KINDS = ["src", "specs", "proofs"]
-HEAD = re.compile(r"^(?:(?:pub|abbrev|unfoldable|data|record) )*([^\s(){}:;]+)\s")
+HEAD = re.compile(r"^(?:(?:pub|abbrev|unfoldable|data|record) )*(?!unfolding )([^\s(){}:;]+)\s")
+LEFT_OUT = re.compile(r"\s*--|(?:(?:pub|abbrev|unfoldable) )*(?:use|mod) ")
 HUNK = re.compile(r"^@@ -\d+(?:,(\d+))? \+\d+(?:,(\d+))? @@", re.M)
 
 
@@ -31,13 +32,13 @@ def git(*words, given=None):
 
 def files_at(commit):
     """The files of a commit below crates/ and tools/, by their paths."""
-    names = git("ls-tree", "-r", "-z", "--name-only", commit, "--", ":/crates", ":/tools").decode().split("\0")[:-1]
-    answer = git("cat-file", "--batch", given="".join(f"{commit}:{name}\n" for name in names).encode())
+    paths = git("ls-tree", "-r", "-z", "--name-only", commit, "--", ":/crates", ":/tools").decode().split("\0")[:-1]
+    answer = git("cat-file", "--batch", given="".join(f"{commit}:{path}\n" for path in paths).encode())
     files = {}
-    for name in names:
+    for path in paths:
         head, _, answer = answer.partition(b"\n")
         size = int(head.split()[-1])
-        files[name] = answer[:size]
+        files[path] = answer[:size]
         answer = answer[size + 1 :]
     return files
 
@@ -59,7 +60,7 @@ def definitions_of(text):
     found = collections.defaultdict(list)
     name = None
     for line in text.split("\n"):
-        if line.lstrip().startswith("--") or line.startswith(("use ", "pub use ", "pub mod ")):
+        if LEFT_OUT.match(line):
             continue
         head = HEAD.match(line)
         if head:
@@ -75,18 +76,19 @@ def all_definitions(files):
 
 
 def compared(old, new):
-    """The names of definitions that are changed, added, gone and moved."""
+    """The definitions that are changed, added, gone and moved. One that is gone from a file and stands under its name in
+    another has moved, and is changed where its text is another."""
     changed = [key for key in old if key in new and old[key] != new[key]]
     gone = [key for key in old if key not in new]
     added = [key for key in new if key not in old]
     moved = []
     for key in list(gone):
-        twin = next((other for other in added if other[1] == key[1] and new[other] == old[key]), None)
-        twin = twin or next((other for other in added if other[1] == key[1]), None)
-        if twin:
+        namesakes = [other for other in added if other[1] == key[1]]
+        if namesakes:
+            other = max(namesakes, key=lambda other: new[other] == old[key])
             gone.remove(key)
-            added.remove(twin)
-            (moved if new[twin] == old[key] else changed).append(twin)
+            added.remove(other)
+            (moved if new[other] == old[key] else changed).append(other)
     return {"changed": changed, "added": added, "gone": gone, "only moved to another file": moved}
 
 
