@@ -8,9 +8,9 @@ use native.Mathlib.Omega.{arith}
 use lib.ListN.{length}
 use lib.Dec.{ltb}
 use borrow.Author.Tests.{lt-ltb, le-ltb}
-use Rattle.arena.specs.Arena.{level, pWord, adjust}
+use Rattle.arena.specs.Arena.{level, pWord, forward, adjust}
 use Rattle.arena.specs.Lazy.{nextWith, lastWith, sumFrom}
-use Rattle.arena.specs.Chain.{All, Member, Chain, Linked, pUnder, after, trues, Same, Shape, Value}
+use Rattle.arena.specs.Chain.{Has, All, Ending, closed, growing, Right, LinksOf, ChainOf, LinkedOf, Chain, pUnder, after, trues, Same, Shape, Value}
 use Rattle.arena.specs.Building.{Built}
 use Rattle.arena.proofs.Cases.{lt-or-ge}
 use Rattle.arena.proofs.SumLaws.{sum-agree, sum-frame}
@@ -71,49 +71,64 @@ last-frame a b k h (r ∷ rs) e =
 levels-kept : (a b : List ℕ) (rs : List ℕ) → All (Shape a b) rs → All (λ x. level b x ≡ level a x) rs
 levels-kept a b rs s = all-map rs (λ x t. t .level-kept) s
 
-pub member-frame : (a b : List ℕ) (r : ℕ) (rs : List ℕ) → length b ≡ length a → Shape a b r → All (Shape a b) rs → Member a r rs → Member b r rs
-member-frame a b r rs long s t m =
-    let e = s .level-kept in
-    let has = m .has in
-    let low = m .low in
-    let high = m .high in
+-- A forward and the next record that are as they were.
+right-kept : (e : Ending) (x y x' y' : ℕ) → x' ≡ x → y' ≡ y → Right e x y → Right e x' y'
+right-kept closed x y x' y' p q r = p ∙ r ∙ sym q
+right-kept growing x y x' y' p q r = λ some. p ∙ r (omega arith) ∙ sym q
+
+links-frame : (e : Ending) (a b : List ℕ) (r : ℕ) (rs : List ℕ) → level a r ≤ 8 → Shape a b r → All (Shape a b) rs → LinksOf e a r rs → LinksOf e b r rs
+links-frame e a b r rs high s t l =
+    let same = s .level-kept in
     record {
-      some = m .some;
-      has = omega arith;
-      low = omega arith;
-      high = omega arith;
-      links =
-          record {
-            at = λ k p. s .forward-kept k (omega arith) ∙ m .links .at k (omega arith)
-                ∙ sym (next-frame a b k rs (levels-kept a b rs t));
-          };
-      away = m .away;
+      at = λ k p.
+          right-kept e (forward a r k) (nextWith a k rs) (forward b r k) (nextWith b k rs) (s .forward-kept k (omega arith))
+          (next-frame a b k rs (levels-kept a b rs t)) (l .at k (omega arith));
     }
 
+pub chain-of-frame : (e : Ending) (a b : List ℕ) (rs : List ℕ) → length b ≡ length a → All (Shape a b) rs → ChainOf e a rs → ChainOf e b rs
+chain-of-frame e a b [] long s c = tt
+chain-of-frame e a b (r ∷ rs) long s c =
+    let same = s .0 .level-kept in
+    let has = c .0 .has in
+    let low = c .0 .low in
+    let high = c .0 .high in (
+      record {
+        some = c .0 .some;
+        has = omega arith;
+        low = omega arith;
+        high = omega arith;
+        links = links-frame e a b r rs high (s .0) (s .1) (c .0 .links);
+        away = c .0 .away;
+      },
+      chain-of-frame e a b rs long (s .1) (c .1),
+    )
+
 pub chain-frame : (a b : List ℕ) (rs : List ℕ) → length b ≡ length a → All (Shape a b) rs → Chain a rs → Chain b rs
-chain-frame a b [] long s c = tt
-chain-frame a b (r ∷ rs) long s c =
-    (member-frame a b r rs long (s .0) (s .1) (c .0), chain-frame a b rs long (s .1) (c .1))
+chain-frame = chain-of-frame closed
 
-pub chain-low : (a : List ℕ) (rs : List ℕ) → Chain a rs → All (λ x. 1 ≤ level a x) rs
-chain-low a [] c = tt
-chain-low a (r ∷ rs) c = (c .0 .low, chain-low a rs (c .1))
+-- What each record of a list is.
+pub chain-low : (e : Ending) (a : List ℕ) (rs : List ℕ) → ChainOf e a rs → All (λ x. 1 ≤ level a x) rs
+chain-low e a [] c = tt
+chain-low e a (r ∷ rs) c = (c .0 .low, chain-low e a rs (c .1))
 
-pub linked-frame : (a b : List ℕ) (h : ℕ) (rs : List ℕ) → length b ≡ length a → Shape a b h → All (Shape a b) rs → Linked a h rs → Linked b h rs
-linked-frame a b h rs long s t l =
-    let e = s .level-kept in
+pub chain-some : (e : Ending) (a : List ℕ) (rs : List ℕ) → ChainOf e a rs → All (λ x. 1 ≤ x) rs
+chain-some e a [] c = tt
+chain-some e a (r ∷ rs) c = (c .0 .some, chain-some e a rs (c .1))
+
+pub chain-has : (e : Ending) (a : List ℕ) (rs : List ℕ) → ChainOf e a rs → All (λ x. Has a x) rs
+chain-has e a [] c = tt
+chain-has e a (r ∷ rs) c = (c .0 .has, chain-has e a rs (c .1))
+
+pub linked-frame : {e : Ending} (a b : List ℕ) (h : ℕ) (rs : List ℕ) → length b ≡ length a → Shape a b h → All (Shape a b) rs → LinkedOf e a h rs → LinkedOf e b h rs
+linked-frame {e} a b h rs long s t l =
     let top = l .top in
     let has = l .has in
     record {
       has = omega arith;
-      top = e ∙ top;
-      links =
-          record {
-            at = λ k p. s .forward-kept k (omega arith) ∙ l .links .at k (omega arith)
-                ∙ sym (next-frame a b k rs (levels-kept a b rs t));
-          };
+      top = s .level-kept ∙ top;
+      links = links-frame e a b h rs (omega arith) s t (l .links);
       away = l .away;
-      chain = chain-frame a b rs long t (l .chain);
+      chain = chain-of-frame e a b rs long t (l .chain);
     }
 
 pub built-frame : (a b : List ℕ) (h : ℕ) (rs : List ℕ) → length b ≡ length a → Same a b h → All (Same a b) rs → Built a h rs → Built b h rs

@@ -11,6 +11,6 @@ pub mod Swaps
 pub mod Turns
 pub mod Walking
 pub mod TurnWalk
-pub mod Written
-pub mod Loads
 pub mod ListLaws
+pub mod CarriedLaws
+pub mod HeldLaws

@@ -5,23 +5,23 @@ use mathlib.Core.List.{List}
 use Prim.Native.Nat.{ℕ, _+_, _-_, _%_, _^_, _≤_, _<_}
 use native.Mathlib.Omega.{arith}
 use lib.ListN.{getD, set}
-use Rattle.arena.specs.Arena.{word, level}
+use Rattle.arena.specs.Arena.{word, level, adjust}
 use Rattle.arena.specs.Building.{hook1, Hooked}
 use Rattle.arena.specs.Turning.{Turnable1, Renewed}
-use Rattle.arena.proofs.Summing.{Renewing, renewing-start, renewing-more, renewing-done}
+use Rattle.arena.proofs.Summing.{Renewing, renewing-start, renewing-more, passing-done}
 use Rattle.arena.proofs.HookLaws.{Prepending, prepending-start, prepending-more, prepending-done}
 
 -- The links from l up are put before the list, and the sums from l up are those after the record.
 pub record LinkTurning (a : List ℕ) (h r : ℕ) (sums b left : List ℕ) (l : ℕ) : Type 0 where
   pub links : Prepending a h r b l
-  pub renewing : Renewing a r sums left l
+  pub renewing : Renewing (adjust a r) (level a r) sums left l
 
 module _ (a : List ℕ) (h r : ℕ) (sums : List ℕ) (can : Turnable1 a h r sums) where
   pub links-start : (v l : ℕ) → v ≡ word a r 0 → l ≡ v → LinkTurning a h r sums a sums l
   links-start v l v-is l-is =
       record {
         links = prepending-start a h r v l (can .summable .low) v-is l-is;
-        renewing = renewing-start a r sums v l v-is l-is;
+        renewing = renewing-start (adjust a r) (level a r) sums l (can .summable .nine) (l-is ∙ v-is);
       }
 
   pub links-more : (b left : List ℕ) (l : ℕ) → LinkTurning a h r sums b left l → 1 < l → (x v w : ℕ) (c : List ℕ) → x ≡ getD left l 0 → v ≡ word b r (11 + (l - 1)) → w ≡ (x + v) % 2 ^ 32 → c ≡ hook1 b h r (l - 1) → LinkTurning a h r sums c (set left (l - 1) w) (l - 1)
@@ -31,10 +31,10 @@ module _ (a : List ℕ) (h r : ℕ) (sums : List ℕ) (can : Turnable1 a h r sum
       record {
         links = prepending-more a h r b c l (can .hookable) high (s .links) some e;
         renewing =
-            renewing-more a r sums left l (can .summable) (s .renewing) some x v w x-is
+            renewing-more (adjust a r) (level a r) sums left l high (s .renewing) some x v w x-is
             (v-is ∙ s .links .hooks .old-adjust (l - 1) (omega arith) (omega arith)) w-is;
       }
 
   pub links-done : (b left : List ℕ) (l : ℕ) → LinkTurning a h r sums b left l → l ≤ 1 → Hooked 1 (level a r) a h r b × Renewed a r sums left
   links-done b left l s done =
-      (prepending-done a h r b l (s .links) done, renewing-done a r sums left l (can .summable) (s .renewing) done)
+      (prepending-done a h r b l (s .links) done, passing-done a r sums left l (s .renewing) done)

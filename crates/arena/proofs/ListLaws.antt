@@ -10,9 +10,9 @@ use lib.Dec.{ltb}
 use borrow.Author.Tests.{lt-ltb, le-ltb}
 use Rattle.arena.specs.Arena.{level, forward, adjust}
 use Rattle.arena.specs.Lazy.{nextWith, lastWith, held}
-use Rattle.arena.specs.Chain.{All, Away, Chain, after, leaving}
+use Rattle.arena.specs.Chain.{All, Away, Chain, pUnder, after, trues, leaving}
 use Rattle.arena.proofs.Cases.{lt-or-ge}
-use Rattle.arena.proofs.Frames.{all-map, next-here, next-past}
+use Rattle.arena.proofs.Frames.{all-map, all-refl, all-both, next-here, next-past}
 
 module _ (a : List ℕ) (k : ℕ) where
   pub last-here : (h r : ℕ) (rs : List ℕ) → k < level a r → lastWith a k h (r ∷ rs) ≡ lastWith a k r rs
@@ -128,6 +128,12 @@ module _ (a : List ℕ) (k : ℕ) where
       either true = refl
       either false = e
 
+-- True p of two lists, one after the other.
+pub trues-append : (a : List ℕ) (f : ℕ → ℕ) (xs ys : List ℕ) → trues a f (xs ++ ys) ≡ trues a f xs ++ trues a (leaving a f xs) ys
+unfolding trues leaving
+trues-append a f [] ys = refl
+trues-append a f (x ∷ xs) ys = ap (λ (l : List ℕ). pUnder a f x ∷ l) (trues-append a (after a f x) xs ys)
+
 -- An arena holds one item for each record.
 pub held-length : (a : List ℕ) (h : ℕ) (before rs : List ℕ) → length (held a h before rs) ≡ length rs
 unfolding held
@@ -193,3 +199,9 @@ pub apart-swap : (xs ys : List ℕ) → All (λ x. Away x ys) xs → All (λ y. 
 apart-swap xs [] p = tt
 apart-swap xs (y ∷ ys) p =
     (all-map xs (λ x q e. q .0 (sym e)) p, apart-swap xs ys (all-map xs (λ x q. q .1) p))
+
+-- The records ys behind xs are none of xs.
+pub apart-from : (a : List ℕ) (xs ys : List ℕ) → Chain a (xs ++ ys) → All (λ y. Away y xs) ys
+apart-from a [] ys c = all-refl ys (λ y. tt)
+apart-from a (x ∷ xs) ys c =
+    all-both ys (λ y p q. (λ e. p (sym e), q)) (all-right (λ y. y ≡ x → ⊥) xs ys (c .0 .away)) (apart-from a xs ys (c .1))

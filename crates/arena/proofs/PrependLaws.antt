@@ -6,7 +6,7 @@ use Prim.Native.Nat.{ℕ, _%_, _^_, _≤_, _<_}
 use native.Mathlib.Omega.{arith}
 use Rattle.arena.specs.Arena.{level, pWord, forward}
 use Rattle.arena.specs.Lazy.{nextWith}
-use Rattle.arena.specs.Chain.{All, Member, Chain, Linked, pUnder, after, trues, Same}
+use Rattle.arena.specs.Chain.{All, Member, Chain, Linked, pUnder, after, trues, Same, closed}
 use Rattle.arena.specs.Building.{Hooked, Built, Fresh, Prepended}
 use Rattle.arena.proofs.Cases.{lt-or-ge}
 use Rattle.arena.proofs.SumLaws.{sum-zero}
@@ -95,6 +95,6 @@ module _ (a : List ℕ) (h r : ℕ) (rs b : List ℕ) (built : Built a h rs) (fr
             };
         true-p =
             ap₂ _∷_ first-p
-            (lowest-free b (λ k. 0) (after b (λ k. 0) r) rs (chain-low b rs rest-chain) after-zero
+            (lowest-free b (λ k. 0) (after b (λ k. 0) r) rs (chain-low closed b rs rest-chain) after-zero
             ∙ trues-frame a b (λ k. 0) (λ k. 0) rs (λ k w. refl) (all-map rs (same-value a b) rest-same));
       }

@@ -2,7 +2,7 @@
 -- Each goes by the number of links, and a link below the first adds nothing.
 use mathlib.Core.Path.{_≡_, refl, sym, ap, ap₂, _∙_}
 use mathlib.Core.Bool.{Bool, true, false, cond}
-use Prim.Native.Nat.{ℕ, zero, suc, _+_, _≤_, _<_}
+use Prim.Native.Nat.{ℕ, zero, suc, _+_, _%_, _^_, _≤_, _<_}
 use native.Mathlib.Omega.{arith}
 use lib.Dec.{leb}
 use borrow.Author.Tests.{le-leb, lt-leb}
@@ -56,3 +56,7 @@ sum-zero l (suc n) = ap₂ (λ (x : ℕ) (y : ℕ). x + y) (sum-zero l n) (none 
     none : (t : Bool) → _≡_ {A = ℕ} (cond t 0 0) 0
     none true = refl
     none false = refl
+
+-- What is equal modulo 2 ^ 32 is so with a number added.
+pub add-both : (c x y : ℕ) → x % 2 ^ 32 ≡ y % 2 ^ 32 → (c + x) % 2 ^ 32 ≡ (c + y) % 2 ^ 32
+add-both c x y e = omega arith

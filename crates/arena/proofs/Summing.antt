@@ -7,10 +7,11 @@ use native.Mathlib.Nat.{mod-add-mod, add-mod-mod}
 use native.Mathlib.Omega.{arith}
 use lib.ListN.{length, getD, replicate, set, length-set}
 use lib.Seq.{getD-set-same, getD-set-other}
+use borrow.Author.Tests.{lt-ltb, le-ltb}
 use Rattle.arena.specs.Arena.{word, level, pWord, adjust}
 use Rattle.arena.specs.Lazy.{sumFrom}
 use Rattle.arena.specs.Chain.{pUnder, after}
-use Rattle.arena.specs.Turning.{Summable, Enterable, Suffixes, TrueP, Renewed}
+use Rattle.arena.specs.Turning.{Summable, Enterable, Suffixes, TrueP, renewed, RenewedBelow, Renewed}
 use Rattle.arena.proofs.Cases.{lt-or-ge, eq-or-ne}
 use Rattle.arena.proofs.SumLaws.{sum-none, sum-first, sum-agree, sum-zero}
 use Rattle.arena.proofs.Frames.{after-in, after-out}
@@ -115,39 +116,55 @@ pub entering-done : (a : List ℕ) (h : ℕ) (sums : List ℕ) (l : ℕ) → Ent
 entering-done a h sums l s done =
     record { nine = s .nine; at = λ i low high. s .held .at i (omega arith) low high }
 
--- The words from l up hold the sums after record r.
-pub record Renewing (a : List ℕ) (r : ℕ) (sums left : List ℕ) (l : ℕ) : Type 0 where
-  pub high : l ≤ level a r
-  pub long : length left ≡ length sums
-  pub held : (f : ℕ → ℕ) → Suffixes f sums → HeldFrom l (after a f r) left
+module _ (g : ℕ → ℕ) (n : ℕ) (f : ℕ → ℕ) (k : ℕ) where
+  pub renewed-in : k < n → renewed g n f k ≡ g k
+  unfolding renewed
+  renewed-in h = simp (lt-ltb k n h)
 
-pub renewing-start : (a : List ℕ) (r : ℕ) (sums : List ℕ) (v l : ℕ) → v ≡ word a r 0 → l ≡ v → Renewing a r sums sums l
-renewing-start a r sums v l v-is l-is =
+  pub renewed-out : n ≤ k → renewed g n f k ≡ f k
+  unfolding renewed
+  renewed-out h = simp (le-ltb k n h)
+
+-- Link 0 counts for no sum that is held, so that nothing is to be renewed below link 1.
+pub renew-none : (g f : ℕ → ℕ) (sums : List ℕ) → Suffixes f sums → Suffixes (renewed g 1 f) sums
+renew-none g f sums t = suffixes-agree f (renewed g 1 f) sums (λ k low high. renewed-out g 1 f k low) t
+
+-- The words from l up hold the sums that are renewed below link n by the sums g.
+pub record Renewing (g : ℕ → ℕ) (n : ℕ) (sums left : List ℕ) (l : ℕ) : Type 0 where
+  pub high : l ≤ n
+  pub nine : length left ≡ 9
+  pub held : (f : ℕ → ℕ) → Suffixes f sums → HeldFrom l (renewed g n f) left
+
+pub renewing-start : (g : ℕ → ℕ) (n : ℕ) (sums : List ℕ) (l : ℕ) → length sums ≡ 9 → l ≡ n → Renewing g n sums sums l
+renewing-start g n sums l nine l-is =
     record {
       high = omega arith;
-      long = refl;
+      nine = nine;
       held =
           λ f t. record {
             at =
                 λ i from low high. t .at i low high
-                ∙ ap (λ (n : ℕ). n % 2 ^ 32)
-                (sym (sum-agree f (after a f r) i 8 (λ k past inside. after-out a f r k (omega arith))));
+                ∙ ap (λ (x : ℕ). x % 2 ^ 32)
+                (sym (sum-agree f (renewed g n f) i 8 (λ k past inside. renewed-out g n f k (omega arith))));
           };
     }
 
-pub renewing-more : (a : List ℕ) (r : ℕ) (sums left : List ℕ) (l : ℕ) → Summable a r sums → Renewing a r sums left l → 1 < l → (x v w : ℕ) → x ≡ getD left l 0 → v ≡ word a r (11 + (l - 1)) → w ≡ (x + v) % 2 ^ 32 → Renewing a r sums (set left (l - 1) w) (l - 1)
-renewing-more a r sums left l can s less x v w x-is v-is w-is =
+pub renewing-more : (g : ℕ → ℕ) (n : ℕ) (sums left : List ℕ) (l : ℕ) → n ≤ 8 → Renewing g n sums left l → 1 < l → (x v w : ℕ) → x ≡ getD left l 0 → v ≡ g (l - 1) → w ≡ (x + v) % 2 ^ 32 → Renewing g n sums (set left (l - 1) w) (l - 1)
+renewing-more g n sums left l top s less x v w x-is v-is w-is =
     let high = s .high in
-    let top = can .high in
     record {
       high = omega arith;
-      long = length-set left (l - 1) w ∙ s .long;
-      held =
-          λ f t.
-          held-more l (after a f r) left (s .held f t) less (omega arith) (s .long ∙ can .nine) x v w x-is
-          (v-is ∙ sym (after-in a f r (l - 1) (omega arith))) w-is;
+      nine = length-set left (l - 1) w ∙ s .nine;
+      held = λ f t.
+          held-more l (renewed g n f) left (s .held f t) less (omega arith) (s .nine) x v w x-is
+          (v-is ∙ sym (renewed-in g n f (l - 1) (omega arith))) w-is;
     }
 
-pub renewing-done : (a : List ℕ) (r : ℕ) (sums left : List ℕ) (l : ℕ) → Summable a r sums → Renewing a r sums left l → l ≤ 1 → Renewed a r sums left
-renewing-done a r sums left l can s done f t =
-    record { nine = s .long ∙ can .nine; at = λ i low high. s .held f t .at i (omega arith) low high }
+pub renewing-done : (g : ℕ → ℕ) (n : ℕ) (sums left : List ℕ) (l : ℕ) → Renewing g n sums left l → l ≤ 1 → RenewedBelow g n sums left
+renewing-done g n sums left l s done f t =
+    record { nine = s .nine; at = λ i low high. s .held f t .at i (omega arith) low high }
+
+-- The sums after record r are renewed by its adjusts below its level.
+pub passing-done : (a : List ℕ) (r : ℕ) (sums left : List ℕ) (l : ℕ) → Renewing (adjust a r) (level a r) sums left l → l ≤ 1 → Renewed a r sums left
+unfolding after renewed
+passing-done a r sums left l s done = renewing-done (adjust a r) (level a r) sums left l s done

@@ -11,17 +11,32 @@ unfoldable pub word : List ℕ → ℕ → ℕ → ℕ
 word a r j = getD a (stride * r + j) 0
 
 -- "Word 0 is the level, 1 is m, 2 is p, 3 to 10 are forward 1 to 8, 11 to 18 are adjust 1 to 8."
+abbrev pub levelAt : ℕ
+levelAt = 0
+
+abbrev pub mAt : ℕ
+mAt = 1
+
+abbrev pub pAt : ℕ
+pAt = 2
+
+abbrev pub forwardAt : ℕ
+forwardAt = 3
+
+abbrev pub adjustAt : ℕ
+adjustAt = 11
+
 abbrev pub level : List ℕ → ℕ → ℕ
-level a r = word a r 0
+level a r = word a r levelAt
 
 abbrev pub mWord : List ℕ → ℕ → ℕ
-mWord a r = word a r 1
+mWord a r = word a r mAt
 
 abbrev pub pWord : List ℕ → ℕ → ℕ
-pWord a r = word a r 2
+pWord a r = word a r pAt
 
 abbrev pub forward : List ℕ → ℕ → ℕ → ℕ
-forward a r k = word a r (3 + k)
+forward a r k = word a r (forwardAt + k)
 
 abbrev pub adjust : List ℕ → ℕ → ℕ → ℕ
-adjust a r k = word a r (11 + k)
+adjust a r k = word a r (adjustAt + k)

@@ -3,18 +3,18 @@ use mathlib.Core.Path.{_≡_}
 use mathlib.Core.List.{List, [], _∷_}
 use Prim.Native.Nat.{ℕ, _+_, _%_, _^_, _≤_, _<_}
 use lib.ListN.{length}
-use Rattle.arena.specs.Arena.{word, level, mWord, pWord, forward, adjust}
+use Rattle.arena.specs.Arena.{word, level, mWord, pWord, forward, adjust, forwardAt, adjustAt}
 use Rattle.arena.specs.Chain.{Has, put, Away, Linked, trues, Same}
 
 -- Link k of record r before what follows the head h: r takes the head's forward, and the head's forward is r.
 unfoldable pub hook1 : List ℕ → ℕ → ℕ → ℕ → List ℕ
-hook1 a h r k = put (put (put a r (3 + k) (forward a h k)) r (11 + k) 0) h (3 + k) r
+hook1 a h r k = put (put (put a r (forwardAt + k) (forward a h k)) r (adjustAt + k) 0) h (forwardAt + k) r
 
 -- The arena b is a with the links of record r from l up to n put before what follows the head h. The adjust of link 0 need not be 0, since it counts for no true p.
 pub record Hooked (l n : ℕ) (a : List ℕ) (h r : ℕ) (b : List ℕ) : Type 0 where
   pub long : length b ≡ length a
   pub outside : (x : ℕ) → (x ≡ h → ⊥) → (x ≡ r → ⊥) → Same a b x
-  pub low : (x j : ℕ) → j < 3 → word b x j ≡ word a x j
+  pub low : (x j : ℕ) → j < forwardAt → word b x j ≡ word a x j
   pub head-new : (k : ℕ) → l ≤ k → k < n → forward b h k ≡ r
   pub head-old : (k : ℕ) → (l ≤ k → k < n → ⊥) → k < 8 → forward b h k ≡ forward a h k
   pub head-adjust : (k : ℕ) → k < 8 → adjust b h k ≡ adjust a h k
@@ -48,7 +48,7 @@ pub record Fresh (a : List ℕ) (h r : ℕ) (rs : List ℕ) : Type 0 where
 pub record Prepended (a : List ℕ) (h r : ℕ) (rs : List ℕ) (b : List ℕ) : Type 0 where
   pub long : length b ≡ length a
   pub outside : (x : ℕ) → (x ≡ h → ⊥) → (x ≡ r → ⊥) → Same a b x
-  pub low : (x j : ℕ) → j < 3 → word b x j ≡ word a x j
+  pub low : (x j : ℕ) → j < forwardAt → word b x j ≡ word a x j
   pub built : Built b h (r ∷ rs)
   pub true-p : trues b (λ k. 0) (r ∷ rs) ≡ (pWord a r % 2 ^ 32) ∷ trues a (λ k. 0) rs
 

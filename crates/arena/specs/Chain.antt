@@ -28,30 +28,53 @@ All P (r ∷ rs) = P r × All P rs
 abbrev pub Away : ℕ → List ℕ → Type 0
 Away r rs = All (λ x. x ≡ r → ⊥) rs
 
+-- A list is closed, or it is open and grows: the forward k of its last record with link k is not set yet.
+pub data Ending : Type 0 where
+  closed : Ending
+  growing : Ending
+
+-- A forward is right before the next record with its link, which is 0 where there is none.
+abbrev pub Right : Ending → (forward next : ℕ) → Type 0
+Right closed forward next = forward ≡ next
+Right growing forward next = 1 ≤ next → forward ≡ next
+
 -- The forwards of r, up to its level, are right before the records rs.
-pub record Links (a : List ℕ) (r : ℕ) (rs : List ℕ) : Type 0 where
-  pub at : (k : ℕ) → k < level a r → forward a r k ≡ nextWith a k rs
+pub record LinksOf (e : Ending) (a : List ℕ) (r : ℕ) (rs : List ℕ) : Type 0 where
+  pub at : (k : ℕ) → k < level a r → Right e (forward a r k) (nextWith a k rs)
 
 -- A record of a list, before the records rs.
-pub record Member (a : List ℕ) (r : ℕ) (rs : List ℕ) : Type 0 where
+pub record MemberOf (e : Ending) (a : List ℕ) (r : ℕ) (rs : List ℕ) : Type 0 where
   pub some : 1 ≤ r
   pub has : Has a r
   pub low : 1 ≤ level a r
   pub high : level a r ≤ 8
-  pub links : Links a r rs
+  pub links : LinksOf e a r rs
   pub away : Away r rs
 
-abbrev pub Chain : List ℕ → List ℕ → Type 0
-Chain a [] = Unit {0}
-Chain a (r ∷ rs) = Member a r rs × Chain a rs
+abbrev pub ChainOf : Ending → List ℕ → List ℕ → Type 0
+ChainOf e a [] = Unit {0}
+ChainOf e a (r ∷ rs) = MemberOf e a r rs × ChainOf e a rs
 
 -- The records rs are the list of the head h.
-pub record Linked (a : List ℕ) (h : ℕ) (rs : List ℕ) : Type 0 where
+pub record LinkedOf (e : Ending) (a : List ℕ) (h : ℕ) (rs : List ℕ) : Type 0 where
   pub has : Has a h
   pub top : level a h ≡ 8
-  pub links : Links a h rs
+  pub links : LinksOf e a h rs
   pub away : Away h rs
-  pub chain : Chain a rs
+  pub chain : ChainOf e a rs
+
+-- The same of a closed list.
+abbrev pub Links : List ℕ → ℕ → List ℕ → Type 0
+Links = LinksOf closed
+
+abbrev pub Member : List ℕ → ℕ → List ℕ → Type 0
+Member = MemberOf closed
+
+abbrev pub Chain : List ℕ → List ℕ → Type 0
+Chain = ChainOf closed
+
+abbrev pub Linked : List ℕ → ℕ → List ℕ → Type 0
+Linked = LinkedOf closed
 
 -- True p by running sums: acc k is adjust k of the last record with link k before r.
 unfoldable pub pUnder : List ℕ → (ℕ → ℕ) → ℕ → ℕ

@@ -3,4 +3,4 @@ pub mod Lazy
 pub mod Chain
 pub mod Building
 pub mod Turning
-pub mod Loading
+pub mod Carried

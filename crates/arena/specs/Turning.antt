@@ -1,9 +1,11 @@
 -- How a list is turned: m and p change places and the order reverses. No public contract cites it.
 use mathlib.Core.Path.{_≡_}
+use mathlib.Core.Bool.{cond}
 use mathlib.Core.List.{List, map, reverse}
 use Prim.Native.Nat.{ℕ, _%_, _^_, _≤_}
+use lib.Dec.{ltb}
 use lib.ListN.{length, getD}
-use Rattle.arena.specs.Arena.{level, mWord, pWord, adjust}
+use Rattle.arena.specs.Arena.{level, mWord, pWord, adjust, mAt, pAt, forwardAt}
 use Rattle.arena.specs.Lazy.{sumFrom}
 use Rattle.arena.specs.Chain.{Has, put, All, Away, Linked, pUnder, after, trues, Same}
 use Rattle.arena.specs.Building.{Hooked, Hookable, Built}
@@ -16,6 +18,14 @@ pub record Suffixes (f : ℕ → ℕ) (sums : List ℕ) : Type 0 where
 -- v is the true p of record r, which the sums s lead to.
 abbrev pub TrueP : List ℕ → ℕ → List ℕ → ℕ → Type 0
 TrueP a r s v = (f : ℕ → ℕ) → Suffixes f s → v ≡ pUnder a f r
+
+-- The sums f with those below link n replaced by the sums g.
+unfoldable pub renewed : (ℕ → ℕ) → ℕ → (ℕ → ℕ) → ℕ → ℕ
+renewed g n f k = cond (ltb k n) (g k) (f k)
+
+-- The sums t are the sums s, renewed so.
+abbrev pub RenewedBelow : (ℕ → ℕ) → ℕ → List ℕ → List ℕ → Type 0
+RenewedBelow g n s t = (f : ℕ → ℕ) → Suffixes f s → Suffixes (renewed g n f) t
 
 -- The sums t are the sums s, renewed by the adjusts of record r.
 abbrev pub Renewed : List ℕ → ℕ → List ℕ → List ℕ → Type 0
@@ -36,11 +46,11 @@ pub record Enterable (a : List ℕ) (h : ℕ) (sums : List ℕ) : Type 0 where
 
 -- Record r with its true p as m and its m as p.
 unfoldable pub swapped : List ℕ → (ℕ → ℕ) → ℕ → List ℕ
-swapped a f r = put (put a r 1 (pUnder a f r)) r 2 (mWord a r)
+swapped a f r = put (put a r mAt (pUnder a f r)) r pAt (mWord a r)
 
 -- The arena b is a with record r, so swapped, before the list of the head h. The head's first forward stands beside the arena: it is `last` at a, and r at b.
 abbrev pub TakenOver : List ℕ → (ℕ → ℕ) → ℕ → ℕ → ℕ → List ℕ → Type 0
-TakenOver a f h r last b = Hooked 1 (level a r) (put (swapped a f r) r 3 last) h r b
+TakenOver a f h r last b = Hooked 1 (level a r) (put (swapped a f r) r forwardAt last) h r b
 
 -- The arena has the head h, and record r, which the sums lead to, can be put before its list.
 pub record Turnable1 (a : List ℕ) (h r : ℕ) (sums : List ℕ) : Type 0 where

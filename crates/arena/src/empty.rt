@@ -2,6 +2,7 @@
 ghost use Rattle.arena.specs.Chain.{Has};
 ghost use Rattle.arena.specs.Building.{Cleared};
 use crate::STRIDE;
+use crate::words::LEVEL;
 use crate::words::store;
 
 // Makes a record the head of an empty list: level 8, and every other word 0.
@@ -14,5 +15,5 @@ pub fn clear_head(arena: &mut [u32], head: usize)
         store(arena, head, j, 0);
         j += 1;
     }
-    store(arena, head, 0, 8);
+    store(arena, head, LEVEL, 8);
 }

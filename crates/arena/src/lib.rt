@@ -1,7 +1,6 @@
 // Records in a lent arena: their words, and lists of them that are made anew.
 pub mod empty;
-pub mod load;
-mod prepend;
+pub mod prepend;
 pub mod sums;
 pub mod turn;
 pub mod words;

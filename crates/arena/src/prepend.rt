@@ -3,6 +3,9 @@ ghost use mathlib.Core.Path.{_≡_};
 ghost use Prim.Native.Nat.{_≤_, _<_};
 ghost use Rattle.arena.specs.Arena.{level};
 ghost use Rattle.arena.specs.Building.{hook1, Hooked, Hookable};
+use crate::words::ADJUST;
+use crate::words::FORWARD;
+use crate::words::LEVEL;
 use crate::words::get;
 use crate::words::store;
 use crate::words::wide;
@@ -13,10 +16,10 @@ pub fn hook(arena: &mut [u32], head: usize, r: usize, k: usize)
     requires { ⌜ Hookable (now arena) head r × (k < 8) ⌝ }
     ensures { λ _. ⌜ now (arena .exit) ≡ hook1 (now (arena .entry)) head r k ⌝ }
 {
-    let next = get(arena, head, 3 + k);
-    store(arena, r, 3 + k, next);
-    store(arena, r, 11 + k, 0);
-    store(arena, head, 3 + k, r as u32);
+    let next = get(arena, head, FORWARD + k);
+    store(arena, r, FORWARD + k, next);
+    store(arena, r, ADJUST + k, 0);
+    store(arena, head, FORWARD + k, r as u32);
 }
 
 // Puts record r, by each link from 1 up that it has, before the list of a head. Link 0 is the caller's.
@@ -24,7 +27,7 @@ pub fn prepend(arena: &mut [u32], head: usize, r: usize)
     requires { ⌜ Hookable (now arena) head r × (1 ≤ level (now arena) r) × (level (now arena) r ≤ 8) ⌝ }
     ensures { λ _. ⌜ Hooked 1 (level (now (arena .entry)) r) (now (arena .entry)) head r (now (arena .exit)) ⌝ }
 {
-    let mut l = wide(get(arena, r, 0));
+    let mut l = wide(get(arena, r, LEVEL));
     while 1 < l {
         let k = l - 1;
         hook(arena, head, r, k);

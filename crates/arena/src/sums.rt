@@ -2,6 +2,9 @@
 // as sums from a link up, so that a true p is one addition.
 ghost use Rattle.arena.specs.Arena.{adjust};
 ghost use Rattle.arena.specs.Turning.{Summable, Enterable, Suffixes, TrueP, Renewed};
+use crate::words::ADJUST;
+use crate::words::LEVEL;
+use crate::words::P;
 use crate::words::get;
 use crate::words::wide;
 
@@ -10,8 +13,8 @@ pub fn true_p(arena: &[u32], r: usize, sums: &[u32]) -> u32
     requires { ⌜ Summable (now arena) r (now sums) ⌝ }
     ensures { λ v. ⌜ TrueP (now (arena .entry)) r (now (sums .entry)) v ⌝ }
 {
-    let level = wide(get(arena, r, 0));
-    std::num::wrapping_add_u32(get(arena, r, 2), sums[level])
+    let level = wide(get(arena, r, LEVEL));
+    std::num::wrapping_add_u32(get(arena, r, P), sums[level])
 }
 
 // Makes the sums those of a head, with which a walk enters its list. A head has every link, so that none of its words but
@@ -23,7 +26,7 @@ pub fn enter(arena: &[u32], head: usize, sums: &mut [u32])
     let mut l = 8;
     while 1 < l {
         let k = l - 1;
-        sums[k] = std::num::wrapping_add_u32(sums[l], get(arena, head, 11 + k));
+        sums[k] = std::num::wrapping_add_u32(sums[l], get(arena, head, ADJUST + k));
         l = k;
     }
 }
@@ -34,10 +37,10 @@ pub fn pass(arena: &[u32], r: usize, sums: &mut [u32])
     requires { ⌜ Summable (now arena) r (now sums) ⌝ }
     ensures { λ _. ⌜ Renewed (now (arena .entry)) r (now (sums .entry)) (now (sums .exit)) ⌝ }
 {
-    let mut l = wide(get(arena, r, 0));
+    let mut l = wide(get(arena, r, LEVEL));
     while 1 < l {
         let k = l - 1;
-        sums[k] = std::num::wrapping_add_u32(sums[l], get(arena, r, 11 + k));
+        sums[k] = std::num::wrapping_add_u32(sums[l], get(arena, r, ADJUST + k));
         l = k;
     }
 }

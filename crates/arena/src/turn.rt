@@ -9,6 +9,11 @@ use crate::empty::clear_head;
 use crate::prepend::hook;
 use crate::sums::enter;
 use crate::sums::true_p;
+use crate::words::ADJUST;
+use crate::words::FORWARD;
+use crate::words::LEVEL;
+use crate::words::M;
+use crate::words::P;
 use crate::words::get;
 use crate::words::store;
 use crate::words::wide;
@@ -19,10 +24,10 @@ fn turn_links(arena: &mut [u32], to: usize, r: usize, sums: &mut [u32])
     ensures { λ _. ⌜ Hooked 1 (level (now (arena .entry)) r) (now (arena .entry)) to r (now (arena .exit)) ⌝ }
     ensures { λ _. ⌜ Renewed (now (arena .entry)) r (now (sums .entry)) (now (sums .exit)) ⌝ }
 {
-    let mut l = wide(get(arena, r, 0));
+    let mut l = wide(get(arena, r, LEVEL));
     while 1 < l {
         let k = l - 1;
-        sums[k] = std::num::wrapping_add_u32(sums[l], get(arena, r, 11 + k));
+        sums[k] = std::num::wrapping_add_u32(sums[l], get(arena, r, ADJUST + k));
         hook(arena, to, r, k);
         l = k;
     }
@@ -35,11 +40,11 @@ fn turn_record(arena: &mut [u32], to: usize, r: usize, last: u32, sums: &mut [u3
     ensures { λ _. ⌜ ((f : ℕ → ℕ) → Suffixes f (now (sums .entry)) → TakenOver (now (arena .entry)) f to r last (now (arena .exit))) ⌝ }
     ensures { λ _. ⌜ Renewed (now (arena .entry)) r (now (sums .entry)) (now (sums .exit)) ⌝ }
 {
-    let m = get(arena, r, 1);
+    let m = get(arena, r, M);
     let p = true_p(arena, r, sums);
-    store(arena, r, 1, p);
-    store(arena, r, 2, m);
-    store(arena, r, 3, last);
+    store(arena, r, M, p);
+    store(arena, r, P, m);
+    store(arena, r, FORWARD, last);
     turn_links(arena, to, r, sums);
 }
 
@@ -52,14 +57,14 @@ pub fn turn(arena: &mut [u32], from: usize, to: usize)
     clear_head(arena, to);
     let mut sums = [0u32; 9];
     enter(arena, from, &mut sums);
-    let mut next = get(arena, from, 3);
+    let mut next = get(arena, from, FORWARD);
     let mut last = 0;
     while next != 0 {
         let r = wide(next);
-        let after = get(arena, r, 3);
+        let after = get(arena, r, FORWARD);
         turn_record(arena, to, r, last, &mut sums);
         last = next;
         next = after;
     }
-    store(arena, to, 3, last);
+    store(arena, to, FORWARD, last);
 }

@@ -5,6 +5,18 @@ ghost use Rattle.arena.specs.Arena.{stride, word};
 ghost use Rattle.arena.specs.Chain.{Has, put, wrap};
 use crate::STRIDE;
 
+// "Word 0 is the level, 1 is m, 2 is p, 3 to 10 are forward 1 to 8, 11 to 18 are adjust 1 to 8." Links are counted from 0:
+// link k has the forward at FORWARD + k and the adjust at ADJUST + k.
+pub const LEVEL: usize = 0;
+
+pub const M: usize = 1;
+
+pub const P: usize = 2;
+
+pub const FORWARD: usize = 3;
+
+pub const ADJUST: usize = 11;
+
 // Word j of record r.
 pub fn get(arena: &[u32], r: usize, j: usize) -> u32
     requires { ⌜ Has (now arena) r × (j < stride) ⌝ }

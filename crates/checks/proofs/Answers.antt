@@ -1,11 +1,11 @@
 -- Laws of answers: a chain of questions is taken only where each is answered "yes", and is refused only by a check that it asks.
 -- Both hold by cases on the first question.
-use mathlib.Core.Path.{_≡_, refl}
+use mathlib.Core.Path.{_≡_, refl, sym, ap, _∙_}
 use mathlib.Core.Bool.{Bool, true, false}
-use Prim.Native.Nat.{ℕ, _≤_}
+use Prim.Native.Nat.{ℕ, zero, suc, _≤_}
 use native.Mathlib.Omega.{arith}
 use Rattle.checks.specs.Check.{Check, Length, Mark, Version, Entries, Present, Kind, SizeCount, Limits, Order, Gauges, Join, OnePart, AtEnd, LevelCount, LevelRange, Opening, Buffers, Output, Fits, LazyList, Place, numberOf}
-use Rattle.checks.specs.Answer.{Answer, refused, taken, ask, next, number}
+use Rattle.checks.specs.Answer.{Answer, refused, taken, ask, next, Asked, also, number, firstNo}
 
 -- No check has the number of a taken call.
 pub number-positive : (c : Check) → 1 ≤ numberOf c
@@ -57,6 +57,10 @@ module _ {A : Type 0} where
   RefusedBy P (refused c) = P c
   RefusedBy P (taken x) = Unit {0}
 
+  pub refused-weaker : (P Q : Check → Type 0) → ((c : Check) → P c → Q c) → (a : Answer A) → RefusedBy P a → RefusedBy Q a
+  refused-weaker P Q weaker (refused c) h = weaker c h
+  refused-weaker P Q weaker (taken x) h = tt
+
   pub ask-refused : (P : Check → Type 0) (b : Bool) (c : Check) (a : Answer A) → P c → RefusedBy P a → RefusedBy P (ask b c a)
   ask-refused P true c a h k = k
   ask-refused P false c a h k = h
@@ -69,3 +73,36 @@ module _ {A B : Type 0} where
   pub next-refused : (P : Check → Type 0) (a : Answer A) (f : A → Answer B) → RefusedBy P a → ((x : A) → RefusedBy P (f x)) → RefusedBy P (next a f)
   next-refused P (refused c) f h k = h
   next-refused P (taken x) f h k = k x
+
+-- A number that is not 0 is the first that is not.
+pub first-wins : (n later : ℕ) → (n ≡ 0 → ⊥) → n ≡ firstNo n later
+first-wins zero later other = absurd (other refl)
+first-wins (suc n) later other = refl
+
+module _ {A : Type 0} where
+  pub also-taken : (q : Asked) (a : Answer A) (x : A) → also q a ≡ taken x → (q ≡ taken tt) × (a ≡ taken x)
+  also-taken (refused c) a x e = absurd (not-both c x e)
+  also-taken (taken ok) a x e = (refl, e)
+
+  pub also-refused : (P : Check → Type 0) (q : Asked) (a : Answer A) → RefusedBy P q → RefusedBy P a → RefusedBy P (also q a)
+  also-refused P (refused c) a h k = h
+  also-refused P (taken ok) a h k = k
+
+  -- The number of two runs of questions is the first of theirs that is not 0.
+  pub also-number : (q : Asked) (a : Answer A) → firstNo (number q) (number a) ≡ number (also q a)
+  also-number (refused c) a = sym (first-wins (numberOf c) (number a) (λ e. let h = number-positive c in omega arith))
+  also-number (taken ok) a = refl
+
+  -- The code may answer with the first number that is not 0 before it asks the rest.
+  module _ (q : Asked) (a : Answer A) (n : ℕ) (asked : n ≡ number q) where
+    pub also-first : (n ≡ 0 → ⊥) → n ≡ number (also q a)
+    also-first other = first-wins n (number a) other ∙ ap (λ (m : ℕ). firstNo m (number a)) asked ∙ also-number q a
+
+    pub also-later : n ≡ 0 → (m : ℕ) → m ≡ number a → m ≡ number (also q a)
+    also-later passed m later =
+        later ∙ ap (λ (k : ℕ). firstNo k (number a)) (sym passed ∙ asked) ∙ also-number q a
+
+  -- Or it may ask both, and answer with the first that is not 0.
+  pub also-both : (q : Asked) (a : Answer A) (n m r : ℕ) → n ≡ number q → m ≡ number a → r ≡ firstNo n m → r ≡ number (also q a)
+  also-both q a n m r asked later e =
+      e ∙ ap (λ (k : ℕ). firstNo k m) asked ∙ ap (firstNo (number q)) later ∙ also-number q a

@@ -1,4 +1,8 @@
 // The numbers of document 01's checks. A "no" answers with its check's number, and a taken call with 0.
+ghost use mathlib.Core.Path.{_≡_};
+ghost use Rattle.checks.specs.Answer.{firstNo};
+
+pub mod limits;
 
 pub const TAKEN: u32 = 0;
 
@@ -49,3 +53,10 @@ pub const FITS: u32 = 19;
 pub const LAZY_LIST: u32 = 20;
 
 pub const PLACE: u32 = 21;
+
+// Of the numbers of two runs of questions, the second of which is asked where the first answers 0: the first "no" wins.
+pub fn first_no(first: u32, later: u32) -> u32
+    ensures { λ r. ⌜ r ≡ firstNo first later ⌝ }
+{
+    if first == TAKEN { later } else { first }
+}

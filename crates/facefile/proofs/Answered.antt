@@ -10,7 +10,7 @@ use Rattle.checks.proofs.Answers.{number-positive}
 use Rattle.slicing.specs.Tree.{Tree, gaugeCount, sizeCount}
 use Rattle.facefile.specs.declared.Face.{Face}
 use Rattle.facefile.specs.Format.{faceOf}
-use Rattle.facefile.specs.Gauge.{gaugeIn, gaugeBytes}
+use Rattle.facefile.specs.Gauge.{gaugeBytes}
 use Rattle.facefile.specs.Summary.{summary}
 
 -- The tree of a taken file, and its counts.
@@ -43,16 +43,16 @@ answer-refused f (taken t) e h = absurd (h (ap (λ (x : Face). x .number) e))
 pub face-tree : (f : Face) (file : List ℕ) → f ≡ summary (faceOf file) → f .number ≡ 0 → (t : Tree) × (faceOf file ≡ taken t)
 face-tree f file e z = let known = answer-taken f (faceOf file) e z in (known .tree, known .face)
 
-pub no-face : (f : Face) (file : List ℕ) (gauge : ℕ) → f ≡ summary (faceOf file) → (f .number ≡ 0 → ⊥) → [] ≡ gaugeBytes file gauge
+pub no-face : (f : Face) (file : List ℕ) (gauge : ℕ) → f ≡ summary (faceOf file) → (f .number ≡ 0 → ⊥) → [] ≡ gaugeBytes (faceOf file) gauge
 unfolding gaugeBytes
 no-face f file gauge e h =
-    let bad = answer-refused f (faceOf file) e h in ap (λ (a : Answer Tree). gaugeIn a gauge) (sym (bad .1))
+    let bad = answer-refused f (faceOf file) e h in ap (λ (a : Answer Tree). gaugeBytes a gauge) (sym (bad .1))
 
-pub no-gauge : (file : List ℕ) (gauge : ℕ) → gauge < 1 → [] ≡ gaugeBytes file gauge
+pub no-gauge : (file : List ℕ) (gauge : ℕ) → gauge < 1 → [] ≡ gaugeBytes (faceOf file) gauge
 unfolding gaugeBytes
 no-gauge file zero h = by (faceOf file)
   where
-    by : (a : Answer Tree) → [] ≡ gaugeIn a 0
+    by : (a : Answer Tree) → [] ≡ gaugeBytes a 0
     by (refused c) = refl
     by (taken t) = refl
 no-gauge file (suc k) h = absurd (omega arith)

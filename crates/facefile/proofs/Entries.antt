@@ -19,7 +19,8 @@ use Rattle.facefile.specs.declared.Step.{Step}
 use Rattle.facefile.specs.declared.Step.the-variants.{Stop, Next}
 use Rattle.facefile.specs.Format.{State, skip, within, sizesFrom, gaugeTaken, gaugeSizes, gaugeEntry, joinParts, joinEntry, kindEntry, entry}
 use Rattle.facefile.specs.Tracking.{flat, Fair, Tracks, Follows, Does, advance}
-use Rattle.facefile.proofs.Took.{state, Cut, within-true}
+use Rattle.facefile.specs.Kinds.{Cut}
+use Rattle.facefile.proofs.Took.{state, within-true}
 use Rattle.facefile.proofs.GoodSizes.{sizes-good}
 use Rattle.facefile.proofs.Stacks.{join-flat, gauges-join, sizes-join}
 

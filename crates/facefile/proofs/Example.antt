@@ -17,6 +17,6 @@ pub example-face : faceOf example ≡ taken (beside (gauge (size 60 40 ∷ size 
 unfolding header sizesAfter sizesFrom gaugeSizes gaugeEntry joinParts joinEntry kindEntry entry entries onePart atEnd faceOf
 example-face = refl
 
-pub example-gauge : gaugeBytes example 2 ≡ 0x00 ∷ 0x32 ∷ 0x00 ∷ 0x1E ∷ 0x00 ∷ 0x1E ∷ 0x00 ∷ 0x32 ∷ []
+pub example-gauge : gaugeBytes (faceOf example) 2 ≡ 0x00 ∷ 0x32 ∷ 0x00 ∷ 0x1E ∷ 0x00 ∷ 0x1E ∷ 0x00 ∷ 0x32 ∷ []
 unfolding header sizesAfter sizesFrom gaugeSizes gaugeEntry joinParts joinEntry kindEntry entry entries onePart atEnd faceOf gaugeBytes
 example-gauge = refl

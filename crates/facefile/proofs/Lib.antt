@@ -5,8 +5,8 @@ pub mod Taken
 pub mod Refused
 pub mod SizesIn
 pub mod SizeBytes
-pub mod Walk
-pub mod WalkTurns
+pub mod WalkSteps
+pub mod WalkStack
 pub mod SizeChecks
 pub mod Entries
 pub mod Reading

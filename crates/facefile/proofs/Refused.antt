@@ -1,29 +1,24 @@
--- Every refusal of a file is by one of checks 1 to 13.
+-- Every refusal of a file is by a check of the file.
 -- The definition of a face asks no other question.
-use mathlib.Core.Path.{_≡_, subst}
 use mathlib.Core.Bool.{Bool, true, false, cond}
 use mathlib.Core.List.{List, [], _∷_}
-use Prim.Native.Nat.{ℕ, zero, suc, _*_, _≤_}
-use native.Mathlib.Omega.{arith}
+use Prim.Native.Nat.{ℕ, zero, suc, _*_}
 use lib.ListN.{length, getD, drop}
 use lib.Dec.{leb, ltb, eqb}
-use Rattle.checks.specs.Check.{Check, Limits, Order, Present, Gauges, SizeCount, AtEnd, Length, Mark, Version, Entries, numberOf}
-use Rattle.checks.specs.Answer.{Answer, refused, ask}
-use Rattle.checks.proofs.Answers.{number-positive, RefusedBy, ask-refused, next-refused}
+use Rattle.checks.specs.Check.{Check, Limits, Order, Present, Gauges, SizeCount, AtEnd, Length, Mark, Version, Entries}
+use Rattle.checks.specs.Answer.{Answer, ask}
+use Rattle.checks.proofs.Answers.{RefusedBy, ask-refused, next-refused}
+use Rattle.checks.proofs.FileChecks.{FileCheck, of-length, of-mark, of-version, of-entries, of-present, of-kind, of-size-count, of-limits, of-order, of-gauges, of-join, of-one-part, of-at-end}
 use Rattle.slicing.specs.Item.{Item}
 use Rattle.slicing.specs.Tree.{Tree, beside, stacked}
 use Rattle.facefile.specs.Format.{State, field, within, marked, header, start, skip, limited, ordered, sizeAt, sizesAfter, sizesFrom, gaugeSizes, gaugeEntry, joinParts, joinEntry, kindEntry, entry, entries, onePart, atEnd, faceOf}
 
--- The check is one of the file's own.
-abbrev OfFile : Check → Type 0
-OfFile c = numberOf c ≤ 13
-
 -- The answer is no refusal but by a check of the file.
 abbrev ByFile : {A : Type 0} → Answer A → Type 0
-ByFile a = RefusedBy OfFile a
+ByFile a = RefusedBy FileCheck a
 
-asks : {A : Type 0} (b : Bool) (c : Check) (a : Answer A) → numberOf c ≤ 13 → ByFile a → ByFile (ask b c a)
-asks b c a = ask-refused OfFile b c a
+asks : {A : Type 0} (b : Bool) (c : Check) (a : Answer A) → FileCheck c → ByFile a → ByFile (ask b c a)
+asks b c a = ask-refused FileCheck b c a
 
 either : (b : Bool) (x y : Answer State) → ByFile x → ByFile y → ByFile (cond b x y)
 either true x y h k = h
@@ -33,70 +28,66 @@ after-by : (y : Item) (k : ℕ) (bytes : List ℕ) → ByFile (sizesAfter y k by
 unfolding sizesAfter
 after-by y zero bytes = tt
 after-by y (suc k) bytes =
-    asks (limited (sizeAt bytes)) Limits _ (omega arith)
-    (asks (ordered y (sizeAt bytes)) Order _ (omega arith)
-    (next-refused OfFile (sizesAfter (sizeAt bytes) k (drop 4 bytes)) _ (after-by (sizeAt bytes) k (drop 4 bytes)) (λ zs. tt)))
+    asks (limited (sizeAt bytes)) Limits _ of-limits
+    (asks (ordered y (sizeAt bytes)) Order _ of-order
+    (next-refused FileCheck (sizesAfter (sizeAt bytes) k (drop 4 bytes)) _ (after-by (sizeAt bytes) k (drop 4 bytes)) (λ zs. tt)))
 
 sizes-by : (k : ℕ) (bytes : List ℕ) → ByFile (sizesFrom k bytes)
 unfolding sizesFrom
 sizes-by zero bytes = tt
 sizes-by (suc k) bytes =
-    asks (limited (sizeAt bytes)) Limits _ (omega arith)
-    (next-refused OfFile (sizesAfter (sizeAt bytes) k (drop 4 bytes)) _ (after-by (sizeAt bytes) k (drop 4 bytes)) (λ zs. tt))
+    asks (limited (sizeAt bytes)) Limits _ of-limits
+    (next-refused FileCheck (sizesAfter (sizeAt bytes) k (drop 4 bytes)) _ (after-by (sizeAt bytes) k (drop 4 bytes)) (λ zs. tt))
 
 gauge-by : (s : State) → ByFile (gaugeEntry s)
 unfolding gaugeEntry gaugeSizes
 gauge-by s =
-    asks (ltb (s .gauges) 64) Gauges _ (omega arith)
-    (asks (ltb 0 (length (s .rest))) Present _ (omega arith)
-    (asks (within 1 8 (getD (s .rest) 0 0)) SizeCount _ (omega arith)
-    (asks (leb (4 * getD (s .rest) 0 0) (length (drop 1 (s .rest)))) Present _ (omega arith)
-    (next-refused OfFile (sizesFrom (getD (s .rest) 0 0) (drop 1 (s .rest))) _ (sizes-by (getD (s .rest) 0 0) (drop 1 (s .rest))) (λ zs. tt)))))
+    asks (ltb (s .gauges) 64) Gauges _ of-gauges
+    (asks (ltb 0 (length (s .rest))) Present _ of-present
+    (asks (within 1 8 (getD (s .rest) 0 0)) SizeCount _ of-size-count
+    (asks (leb (4 * getD (s .rest) 0 0) (length (drop 1 (s .rest)))) Present _ of-present
+    (next-refused FileCheck (sizesFrom (getD (s .rest) 0 0) (drop 1 (s .rest))) _ (sizes-by (getD (s .rest) 0 0) (drop 1 (s .rest))) (λ zs. tt)))))
 
 parts-by : (cut : Tree → Tree → Tree) (parts : List Tree) → ByFile (joinParts cut parts)
 unfolding joinParts
-parts-by cut [] = omega arith
-parts-by cut (b ∷ []) = omega arith
+parts-by cut [] = of-join
+parts-by cut (b ∷ []) = of-join
 parts-by cut (b ∷ a ∷ parts) = tt
 
 join-by : (cut : Tree → Tree → Tree) (s : State) → ByFile (joinEntry cut s)
 unfolding joinEntry
-join-by cut s = next-refused OfFile (joinParts cut (s .stack)) _ (parts-by cut (s .stack)) (λ parts. tt)
+join-by cut s = next-refused FileCheck (joinParts cut (s .stack)) _ (parts-by cut (s .stack)) (λ parts. tt)
 
 entry-by : (s : State) → ByFile (entry s)
 unfolding entry kindEntry
 entry-by s =
     let k = getD (s .rest) 0 0 in
-    asks (ltb 0 (length (s .rest))) Present _ (omega arith)
+    asks (ltb 0 (length (s .rest))) Present _ of-present
     (either (eqb k 0x01) _ _ (gauge-by (skip 1 s))
     (either (eqb k 0x02) _ _ (join-by beside (skip 1 s))
-    (either (eqb k 0x03) _ _ (join-by stacked (skip 1 s)) (omega arith))))
+    (either (eqb k 0x03) _ _ (join-by stacked (skip 1 s)) of-kind)))
 
 entries-by : (k : ℕ) (s : State) → ByFile (entries k s)
 unfolding entries
 entries-by zero s = tt
-entries-by (suc k) s = next-refused OfFile (entry s) (entries k) (entry-by s) (entries-by k)
+entries-by (suc k) s = next-refused FileCheck (entry s) (entries k) (entry-by s) (entries-by k)
 
 end-by : (parts : List Tree) (rest : List ℕ) → ByFile (onePart parts rest)
 unfolding onePart
-end-by [] rest = omega arith
-end-by (t ∷ []) rest = asks (eqb (length rest) 0) AtEnd _ (omega arith) tt
-end-by (t ∷ a ∷ parts) rest = omega arith
+end-by [] rest = of-one-part
+end-by (t ∷ []) rest = asks (eqb (length rest) 0) AtEnd _ of-at-end tt
+end-by (t ∷ a ∷ parts) rest = of-one-part
 
 header-by : (s : List ℕ) → ByFile (header s)
 unfolding header
 header-by s =
-    asks (leb 7 (length s)) Length _ (omega arith)
-    (asks (marked s) Mark _ (omega arith)
-    (asks (eqb (field s 3) 1) Version _ (omega arith)
-    (asks (within 1 127 (field s 5)) Entries _ (omega arith) tt)))
+    asks (leb 7 (length s)) Length _ of-length
+    (asks (marked s) Mark _ of-mark
+    (asks (eqb (field s 3) 1) Version _ of-version
+    (asks (within 1 127 (field s 5)) Entries _ of-entries tt)))
 
-face-by : (s : List ℕ) → ByFile (faceOf s)
+pub face-refused : (s : List ℕ) → RefusedBy FileCheck (faceOf s)
 unfolding faceOf atEnd
-face-by s =
-    next-refused OfFile (header s) _ (header-by s)
-    (λ count. next-refused OfFile (entries count (start s)) atEnd (entries-by count (start s)) (λ e. end-by (e .stack) (e .rest)))
-
--- A refusal has a number from 1 to 13.
-pub face-refused : (s : List ℕ) (c : Check) → faceOf s ≡ refused c → (1 ≤ numberOf c) × (numberOf c ≤ 13)
-face-refused s c e = (number-positive c, subst (λ (a : Answer Tree). ByFile a) e (face-by s))
+face-refused s =
+    next-refused FileCheck (header s) _ (header-by s)
+    (λ count. next-refused FileCheck (entries count (start s)) atEnd (entries-by count (start s)) (λ e. end-by (e .stack) (e .rest)))

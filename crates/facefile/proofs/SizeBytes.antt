@@ -5,12 +5,12 @@ use mathlib.Core.List.{List, [], _∷_}
 use Prim.Native.Nat.{ℕ, zero, suc, _+_, _*_, _/_, _%_, _≤_, _<_}
 use native.Mathlib.Omega.{arith}
 use lib.ListN.{length, getD, take, drop, length-drop}
-use lib.Seq.{take-add, getD-drop}
+use lib.Seq.{take-add, take-length, getD-drop}
 use Rattle.checks.specs.Answer.{taken}
 use Rattle.slicing.specs.Item.{Item}
 use Rattle.facefile.specs.Format.{sizeAt, sizesFrom}
 use Rattle.facefile.specs.Gauge.{sizeBytes}
-use Rattle.facefile.specs.Sizes.{sizesIn}
+use Rattle.facefile.specs.Sizes.{sizesIn, Sized}
 use Rattle.facefile.proofs.SizesIn.{from-in}
 
 -- Every element is a byte.
@@ -56,6 +56,19 @@ unfolding sizesIn
 in-bytes zero s b h = refl
 in-bytes (suc k) s b h =
     sizes-more k s (sizesIn k (drop 4 s)) b h (in-bytes k (drop 4 s) (bytes-drop 4 s b) (omega (arith, length-drop 4 s)))
+
+bytes-take : (k : ℕ) (s : List ℕ) → Bytes s → Bytes (take k s)
+bytes-take zero s h i = omega arith
+bytes-take (suc k) [] h i = omega arith
+bytes-take (suc k) (x ∷ s) h zero = h 0
+bytes-take (suc k) (x ∷ s) h (suc i) = bytes-take k s (λ j. h (suc j)) i
+
+-- The bytes from one place to another, where they are those of n sizes.
+pub stretch-bytes : (n k from : ℕ) (s : List ℕ) → Bytes s → Sized n (take k (drop from s)) → take k (drop from s) ≡ sizeBytes (sizesIn n (take k (drop from s)))
+stretch-bytes n k from s b sized =
+    let x = take k (drop from s) in
+    sym (ap (λ (j : ℕ). take j x) (sym sized) ∙ take-length x)
+    ∙ in-bytes n x (bytes-take k (drop from s) (bytes-drop from s b)) (omega arith)
 
 pub sizes-bytes : (count : ℕ) (s : List ℕ) (zs : List Item) → Bytes s → 4 * count ≤ length s → sizesFrom count s ≡ taken zs → take (4 * count) s ≡ sizeBytes zs
 sizes-bytes count s zs b h e = in-bytes count s b h ∙ ap sizeBytes (sym (from-in count s zs e))

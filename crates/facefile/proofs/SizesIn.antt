@@ -1,17 +1,18 @@
 -- The sizes that the reader took are those that stand in the bytes, and these hang on their own bytes alone.
--- The reader takes a size only as it stands at its place.
+-- The reader takes a size only as it stands at its place, four bytes after the size before it.
 use mathlib.Core.Path.{_≡_, refl, sym, ap, ap₂, _∙_}
 use mathlib.Core.List.{List, [], _∷_}
 use Prim.Native.Nat.{ℕ, zero, suc, _+_, _*_, _<_}
 use native.Mathlib.Omega.{arith}
 use lib.ListN.{length, getD, drop}
-use lib.Seq.{getD-drop}
+use lib.Seq.{drop-drop, getD-drop}
 use Rattle.checks.specs.Check.{Limits, Order}
 use Rattle.checks.specs.Answer.{taken}
 use Rattle.checks.proofs.Answers.{same-taken, ask-taken, next-taken}
 use Rattle.slicing.specs.Item.{Item, size}
-use Rattle.facefile.specs.Format.{sizeAt, limited, ordered, sizesAfter, sizesFrom}
-use Rattle.facefile.specs.Sizes.{sizesIn}
+use Rattle.facefile.specs.Format.{field, sizeAt, limited, ordered, sizesAfter, sizesFrom}
+use Rattle.facefile.specs.Sizes.{sizesIn, SizeIn}
+use Rattle.facefile.proofs.SizeChecks.{size-at}
 
 after-in : (y : Item) (k : ℕ) (bytes : List ℕ) (z : List Item) → sizesAfter y k bytes ≡ taken z → z ≡ sizesIn k bytes
 unfolding sizesAfter sizesIn
@@ -44,3 +45,20 @@ pub in-length : (k : ℕ) (x : List ℕ) → length (sizesIn k x) ≡ k
 unfolding sizesIn
 in-length zero x = refl
 in-length (suc k) x = ap suc (in-length k (drop 4 x))
+
+in-at : (n k : ℕ) (x : List ℕ) → k < n → sizeAt (drop (4 * k) x) ≡ getD (sizesIn n x) k (size 0 0)
+unfolding sizesIn
+in-at zero k x h = absurd (omega arith)
+in-at (suc n) zero x h = refl
+in-at (suc n) (suc k) x h =
+    let place : 4 * suc k ≡ 4 + 4 * k = omega arith in
+    ap (λ (i : ℕ). sizeAt (drop i x)) place ∙ sym (ap sizeAt (drop-drop (4 * k) 4 x)) ∙ in-at n k (drop 4 x) (omega arith)
+
+-- The two fields of size k.
+pub size-in : (x : List ℕ) (k h w : ℕ) → (h ≡ field x (4 * k)) × (h < 65_536) → (w ≡ field x (4 * k + 2)) × (w < 65_536) → SizeIn x k (record { height = h; width = w })
+size-in x k h w height width =
+    record {
+      same = λ n less. size-at x (4 * k) h w (height .0) (width .0) ∙ in-at n k x less;
+      height-fits = height .1;
+      width-fits = width .1;
+    }

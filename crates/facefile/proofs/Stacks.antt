@@ -6,7 +6,8 @@ use Prim.Native.Nat.{ℕ}
 use Rattle.slicing.specs.Tree.{Tree, gauge, beside, stacked, gaugesOf, sizesOf}
 use Rattle.facefile.specs.Format.{State}
 use Rattle.facefile.specs.Tracking.{flat}
-use Rattle.facefile.proofs.Took.{Cut, cut-beside, cut-stacked, Took, took-gauge, took-join, Reads, reads-none, reads-more}
+use Rattle.facefile.specs.Kinds.{Cut, cut-beside, cut-stacked}
+use Rattle.facefile.proofs.Took.{Took, took-gauge, took-join, Reads, reads-none, reads-more}
 
 -- f makes of a join the lists of its parts, one after the other.
 pub record Joins {A : Type 0} (f : Tree → List A) : Type 0 where

@@ -16,7 +16,8 @@ use Rattle.slicing.specs.Good.{Good}
 use Rattle.slicing.proofs.Counts.{counted}
 use Rattle.facefile.specs.Format.{State, field, within, marked, header, start, entries, onePart, atEnd, faceOf}
 use Rattle.facefile.specs.Tracking.{flat}
-use Rattle.facefile.proofs.Took.{state, within-true, Cut, cut-beside, cut-stacked, Took, took-gauge, took-join, Reads, reads-none, reads-more, entries-read}
+use Rattle.facefile.specs.Kinds.{Cut, cut-beside, cut-stacked}
+use Rattle.facefile.proofs.Took.{state, within-true, Took, took-gauge, took-join, Reads, reads-none, reads-more, entries-read}
 use Rattle.facefile.proofs.GoodSizes.{sizes-good}
 use Rattle.facefile.proofs.Stacks.{join-flat, gauges-join}
 
@@ -56,7 +57,7 @@ no-bytes : (l : List ℕ) → length l ≡ 0 → l ≡ []
 no-bytes [] e = refl
 no-bytes (x ∷ l) e = absurd (omega arith)
 
-end-taken : (parts : List Tree) (rest : List ℕ) (t : Tree) → onePart parts rest ≡ taken t → (parts ≡ t ∷ []) × (rest ≡ [])
+pub end-taken : (parts : List Tree) (rest : List ℕ) (t : Tree) → onePart parts rest ≡ taken t → (parts ≡ t ∷ []) × (rest ≡ [])
 unfolding onePart
 end-taken [] rest t e = absurd (not-both _ t e)
 end-taken (x ∷ []) rest t e =
@@ -64,18 +65,21 @@ end-taken (x ∷ []) rest t e =
     (ap (λ (y : Tree). y ∷ []) (same-taken x t (done .1)), no-bytes rest (eqb-true (length rest) 0 (done .0)))
 end-taken (x ∷ y ∷ parts) rest t e = absurd (not-both _ t e)
 
+-- Entries from any state to the end of a file that means t.
+pub end-read : (k : ℕ) (s : State) (t : Tree) → next (entries k s) atEnd ≡ taken t → (last : ℕ) × Reads k s (state [] (t ∷ []) last)
+unfolding atEnd
+end-read k s t e =
+    let all = next-taken (entries k s) atEnd t e in
+    let ended = end-taken (all .0 .stack) (all .0 .rest) t (all .2) in
+    (all .0 .gauges, rw (← ended .0, ← ended .1) (entries-read k s (all .0) (all .1)))
+
 pub face-read : (s : List ℕ) (t : Tree) → faceOf s ≡ taken t → FaceRead s t
-unfolding faceOf atEnd
+unfolding faceOf
 face-read s t e =
     let head = next-taken (header s) (λ count. next (entries count (start s)) atEnd) t e in
     let first = header-taken s (head .0) (head .1) in
-    let all = next-taken (entries (head .0) (start s)) atEnd t (head .2) in
-    let ended = end-taken (all .0 .stack) (all .0 .rest) t (all .2) in
-    record {
-      headed = first .0;
-      last = all .0 .gauges;
-      reads = rw (first .1, ← ended .0, ← ended .1) (entries-read (head .0) (start s) (all .0) (all .1));
-    }
+    let rest = end-read (head .0) (start s) t (head .2) in
+    record { headed = first .0; last = rest .0; reads = rw (first .1) (rest .1) }
 
 abbrev pub GoodParts : List Tree → Type 0
 GoodParts [] = Unit {0}

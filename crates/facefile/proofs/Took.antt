@@ -12,15 +12,11 @@ use Rattle.checks.specs.Answer.{refused, taken}
 use Rattle.checks.proofs.Answers.{not-both, same-taken, ask-taken, next-taken}
 use Rattle.slicing.specs.Item.{Item}
 use Rattle.slicing.specs.Tree.{Tree, gauge, beside, stacked}
+use Rattle.facefile.specs.Kinds.{Cut, cut-beside, cut-stacked}
 use Rattle.facefile.specs.Format.{State, skip, within, sizesFrom, gaugeTaken, gaugeSizes, gaugeEntry, joinParts, joinEntry, kindEntry, entry, entries}
 
 abbrev pub state : List ℕ → List Tree → ℕ → State
 state rest parts g = record { rest = rest; stack = parts; gauges = g }
-
--- The kind byte of a join, and the join.
-pub data Cut : ℕ → (Tree → Tree → Tree) → Type 0 where
-  cut-beside : Cut 0x02 beside
-  cut-stacked : Cut 0x03 stacked
 
 -- One entry took the first state to the second.
 pub data Took : State → State → Type 0 where
@@ -79,7 +75,7 @@ kind-took kind rest parts g s e = by-kind (eqb kind 0x01) (eqb kind 0x02) (eqb k
         (join-took 0x03 stacked rest parts g s cut-stacked t)
     by-kind false false false p q r t = absurd (not-both Kind s t)
 
-entry-took : (rest : List ℕ) (parts : List Tree) (g : ℕ) (s : State) → entry (state rest parts g) ≡ taken s → Took (state rest parts g) s
+pub entry-took : (rest : List ℕ) (parts : List Tree) (g : ℕ) (s : State) → entry (state rest parts g) ≡ taken s → Took (state rest parts g) s
 unfolding entry
 entry-took [] parts g s e = absurd (not-both _ s e)
 entry-took (kind ∷ bytes) parts g s e =

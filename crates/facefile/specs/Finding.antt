@@ -3,6 +3,7 @@ use mathlib.Core.Path.{_≡_}
 use mathlib.Core.List.{List}
 use Prim.Native.Nat.{ℕ, _-_, _≤_}
 use lib.ListN.{length, take, drop}
+use Rattle.facefile.specs.Format.{faceOf}
 use Rattle.facefile.specs.Gauge.{gaugeBytes}
 use Rattle.facefile.specs.declared.Stretch.{Stretch}
 
@@ -10,4 +11,4 @@ use Rattle.facefile.specs.declared.Stretch.{Stretch}
 pub record Found (file : List ℕ) (gauge : ℕ) (r : Stretch) : Type 0 where
   pub ordered : r .from ≤ r .to
   pub inside : r .to ≤ length file
-  pub bytes : take (r .to - r .from) (drop (r .from) file) ≡ gaugeBytes file gauge
+  pub bytes : take (r .to - r .from) (drop (r .from) file) ≡ gaugeBytes (faceOf file) gauge

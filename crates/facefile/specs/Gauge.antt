@@ -4,7 +4,6 @@ use Prim.Native.Nat.{ℕ, zero, suc, _/_, _%_}
 use Rattle.checks.specs.Answer.{Answer, refused, taken}
 use Rattle.slicing.specs.Item.{Item, height, width}
 use Rattle.slicing.specs.Tree.{Tree, gaugesOf}
-use Rattle.facefile.specs.Format.{faceOf}
 
 -- Heights and widths, four bytes a size, the high byte first.
 abbrev pub sizeBytes : List Item → List ℕ
@@ -18,10 +17,7 @@ gaugeNumbered [] (suc k) = []
 gaugeNumbered (z ∷ gauges) (suc zero) = z
 gaugeNumbered (z ∷ gauges) (suc (suc k)) = gaugeNumbered gauges (suc k)
 
-abbrev pub gaugeIn : Answer Tree → ℕ → List ℕ
-gaugeIn (refused c) k = []
-gaugeIn (taken t) k = sizeBytes (gaugeNumbered (gaugesOf t) k)
-
 -- The part is empty if the file is refused or there is no such gauge.
-unfoldable pub gaugeBytes : List ℕ → ℕ → List ℕ
-gaugeBytes file k = gaugeIn (faceOf file) k
+unfoldable pub gaugeBytes : Answer Tree → ℕ → List ℕ
+gaugeBytes (refused c) k = []
+gaugeBytes (taken t) k = sizeBytes (gaugeNumbered (gaugesOf t) k)

@@ -1,9 +1,10 @@
 // Numbers in the file's bytes.
 ghost use mathlib.Core.Path.{_≡_};
-ghost use Prim.Native.Nat.{_+_, _<_, _≤_};
+ghost use Prim.Native.Nat.{ℕ, _+_, _<_, _≤_};
 ghost use lib.ListN.{length, drop};
 ghost use Rattle.facefile.specs.Format.{field, within, sizeAt};
 ghost use Rattle.slicing.specs.Item.{size};
+ghost use Rattle.facefile.specs.Sizes.{Sized, SizeIn};
 use crate::Size;
 
 // A byte as a wider number.
@@ -29,6 +30,18 @@ pub fn size_at(file: &[u8], at: usize) -> Size
     Size {
         height: field(file, at),
         width: field(file, at + 2),
+    }
+}
+
+// Size k of those that stand in the bytes.
+pub fn size_in(sizes: &[u8], k: usize) -> Size
+    requires { ⌜ ((n : ℕ) × Sized n (now sizes) × (k < n)) ⌝ }
+    ensures { λ r. ⌜ SizeIn (now (sizes .entry)) k r ⌝ }
+{
+    let at = 4 * k;
+    Size {
+        height: field(sizes, at),
+        width: field(sizes, at + 2),
     }
 }
 

@@ -1,12 +1,16 @@
-// The face file of document 01: checks 1 to 13, what is counted in a taken file, and the size bytes of a gauge.
+// The face file of document 01: checks 1 to 13, what is counted in a taken file, the walk over its entries, and the size
+// bytes of a gauge.
 mod entry;
-pub mod field;
+mod field;
 mod gauge;
 mod kinds;
 mod reader;
 mod size_bytes;
 mod sizes;
+pub mod walk;
 
+pub use field::is_within;
+pub use field::size_in;
 pub use kinds::runs_across;
 pub use reader::read;
 pub use size_bytes::gauge_bytes;
@@ -41,7 +45,7 @@ enum Step {
 }
 
 // A height and a width.
-struct Size {
+pub struct Size {
     pub height: u32,
     pub width: u32,
 }

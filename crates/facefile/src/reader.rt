@@ -12,6 +12,7 @@ use crate::Step;
 use crate::entry::read_entry;
 use crate::field::field;
 use crate::field::is_within;
+use crate::walk::FIRST_ENTRY;
 
 // The first seven bytes: the number of the first of checks 1 to 4 that fails, or 0.
 fn header_number(file: &[u8]) -> u32
@@ -39,7 +40,7 @@ fn read_entries(file: &[u8], count: usize) -> Step
     ensures { λ r. ⌜ Follows (now (file .entry)) (entries count (start (now (file .entry)))) r ⌝ }
 {
     let mut c = Cursor {
-        at: 7,
+        at: FIRST_ENTRY,
         parts: 0,
         gauges: 0,
         sizes: 0,

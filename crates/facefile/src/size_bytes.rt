@@ -6,10 +6,11 @@ ghost use Rattle.slicing.specs.Tree.{Tree};
 ghost use Rattle.facefile.specs.Format.{faceOf};
 ghost use Rattle.facefile.specs.Gauge.{gaugeBytes};
 ghost use Rattle.facefile.specs.Finding.{Found};
-use crate::GAUGE;
 use crate::Stretch;
-use crate::field::wide;
 use crate::reader::read;
+use crate::walk::Entry;
+use crate::walk::FIRST_ENTRY;
+use crate::walk::entry_at;
 
 // Where the size bytes of a gauge of a taken file stand, the gauges counted from 1; an empty stretch where there is no
 // such gauge.
@@ -18,20 +19,21 @@ fn find_sizes(file: &[u8], gauge: u32) -> Stretch
     requires { ⌜ 1 ≤ gauge ⌝ }
     ensures { λ r. ⌜ Found (now (file .entry)) gauge r ⌝ }
 {
-    let mut at = 7;
+    let mut at = FIRST_ENTRY;
     let mut left = gauge;
     while at < file.len() {
-        if file[at] == GAUGE {
-            let count = wide(file[at + 1]);
-            let from = at + 2;
-            let to = from + 4 * (count as usize);
-            if left <= 1 {
-                return Stretch { from, to };
+        match entry_at(file, at) {
+            Entry::Gauge(g) => {
+                if left <= 1 {
+                    return Stretch {
+                        from: g.from,
+                        to: g.to,
+                    };
+                }
+                left -= 1;
+                at = g.next;
             }
-            left -= 1;
-            at = to;
-        } else {
-            at += 1;
+            Entry::Join(_, next) => at = next,
         }
     }
     Stretch { from: 0, to: 0 }
@@ -40,7 +42,7 @@ fn find_sizes(file: &[u8], gauge: u32) -> Stretch
 // The heights and widths of a gauge, counted from 1, four bytes a size; nothing where the file is refused or has no
 // such gauge.
 pub fn gauge_bytes(file: &[u8], gauge: u32) -> &[u8]
-    ensures { λ r. ⌜ now r ≡ gaugeBytes (now (file .entry)) gauge ⌝ }
+    ensures { λ r. ⌜ now r ≡ gaugeBytes (faceOf (now (file .entry))) gauge ⌝ }
 {
     let face = read(file);
     if face.number != checks::TAKEN {

@@ -1,13 +1,2 @@
-pub mod PickLaws
-pub mod Looking
-pub mod OrderLaws
-pub mod Searching
-pub mod PartLists
-pub mod TakeLaws
-pub mod ShapeReading
-pub mod JoinLaws
-pub mod LayLaws
-pub mod FitLent
 pub mod FaceLaws
 pub mod FitCall
-pub mod Rows

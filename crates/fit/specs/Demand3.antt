@@ -9,7 +9,7 @@ use Rattle.slicing.specs.Shapes.{shapes}
 use Rattle.slicing.specs.Layout.{topmost, rightmost, Outline}
 use Rattle.slicing.specs.Fit.{picked, smallest, place, words}
 use Rattle.slicing.specs.FitMeans.{FaceFits, NothingFits}
-use Rattle.shapes.specs.Listing.{writtenOver}
+use Rattle.lent.specs.Lent.{writtenOver}
 use Rattle.fit.specs.declared.Fitted.{Fitted}
 
 -- A face was returned: the item z of the face t was picked, and its layout was written.

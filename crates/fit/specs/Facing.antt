@@ -3,6 +3,7 @@ use mathlib.Core.Path.{_≡_}
 use mathlib.Core.List.{List}
 use Prim.Native.Nat.{ℕ, _*_, _≤_}
 use lib.ListN.{length}
+use Rattle.checks.specs.Limits.{bufferWords}
 use Rattle.checks.specs.Answer.{taken}
 use Rattle.slicing.specs.Tree.{Tree, gaugeCount}
 use Rattle.slicing.specs.Shapes.{shapes}
@@ -17,7 +18,7 @@ pub record Placeable (file : List ℕ) (gauges : ℕ) (scratch output : List ℕ
   pub tree : Tree
   pub face : faceOf file ≡ taken tree
   pub gauges-is : gauges ≡ gaugeCount tree
-  pub long : 16_384 ≤ length scratch
+  pub long : bufferWords ≤ length scratch
   pub room : 5 * gaugeCount tree ≤ length output
 
 -- The face that is picked was answered, and its layout written.

@@ -1,35 +1,29 @@
 -- Document 01's fit call: its checks, what it answers, and what it leaves in the lent buffers.
-use mathlib.Core.Bool.{_&&_}
 use mathlib.Core.List.{List}
 use Prim.Native.Nat.{ℕ, _*_}
-use lib.Dec.{leb, eqb}
 use lib.ListN.{length}
-use Rattle.checks.specs.Check.{LevelCount, LevelRange, Opening, Buffers, Output, Fits, numberOf}
-use Rattle.checks.specs.Answer.{Answer, refused, taken, ask, next}
+use Rattle.checks.specs.Check.{Fits, numberOf}
+use Rattle.checks.specs.Answer.{Answer, refused, taken, Asked, also}
 use Rattle.slicing.specs.Item.{height, width}
 use Rattle.slicing.specs.Tree.{Tree, gaugeCount, sizeCount}
 use Rattle.slicing.specs.Shapes.{shapes}
 use Rattle.slicing.specs.Layout.{Outline}
 use Rattle.slicing.specs.Fit.{Pick, nothing, picked, area, smallest, place, words}
-use Rattle.facefile.specs.Format.{within, faceOf}
-use Rattle.shapes.specs.Listing.{levelsInRange, writtenOver}
+use Rattle.lent.specs.Lent.{Lent, writtenOver}
+use Rattle.lent.specs.Questions.{levelsLent, openingGiven, buffersLent, outputLent}
+use Rattle.lent.specs.Call.{callOn}
 use Rattle.fit.specs.declared.Fitted.{Fitted}
 
--- Of a face of n sizes and g gauges: "As many levels as sizes? 14. Each level 1 to 8? 15. Opening height and width both 1 to 64,000? 16. Arena and scratch, each 16,384 32-bit words or more? 17. Output long enough? 18. ... the fit call 5g."
-unfoldable pub fitLent : ℕ → ℕ → List ℕ → Outline → ℕ → ℕ → ℕ → Answer (Unit {0})
-fitLent n g levels o arena scratch output =
-    ask (eqb (length levels) n) LevelCount
-    (ask (levelsInRange levels) LevelRange
-    (ask (within 1 64_000 (o .height) && within 1 64_000 (o .width)) Opening
-    (ask (leb 16_384 arena && leb 16_384 scratch) Buffers
-    (ask (leb (5 * g) output) Output
-    (taken tt)))))
+-- Of a face of n sizes and g gauges, with buffers of so many words: "As many levels as sizes? 14. Each level 1 to 8? 15. Opening height and width both 1 to 64,000? 16. Arena and scratch, each 16,384 32-bit words or more? 17. Output long enough? 18. ... the fit call 5g."
+unfoldable pub fitAsks : ℕ → ℕ → List ℕ → Outline → (arena scratch output : ℕ) → Asked
+fitAsks n g levels o arena scratch output =
+    also (levelsLent n levels) (also (openingGiven o) (also (buffersLent arena scratch) (outputLent (5 * g) output)))
 
 -- The fit call makes checks 1 to 18. What they take is the face.
-unfoldable pub fitChecks : List ℕ → List ℕ → Outline → List ℕ → List ℕ → List ℕ → Answer Tree
-fitChecks file levels o arena scratch output =
-    next (faceOf file)
-    (λ t. next (fitLent (sizeCount t) (gaugeCount t) levels o (length arena) (length scratch) (length output)) (λ ok. taken t))
+unfoldable pub fitChecks : Answer Tree → List ℕ → Outline → Lent → Answer Tree
+fitChecks face levels o old =
+    callOn face
+    (λ t. fitAsks (sizeCount t) (gaugeCount t) levels o (length (old .arena)) (length (old .scratch)) (length (old .output)))
 
 -- "Fields beside the number are then zero."
 abbrev pub noFace : ℕ → Fitted

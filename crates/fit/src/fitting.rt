@@ -1,39 +1,25 @@
 // The fit call.
 ghost use mathlib.Core.Path.{_≡_};
-ghost use Prim.Native.Nat.{_*_, _/_, _%_, _≤_, _<_};
+ghost use Prim.Native.Nat.{_≤_};
 ghost use Rattle.checks.specs.Answer.{number};
 ghost use Rattle.slicing.specs.Layout.{outline};
-ghost use Rattle.facefile.specs.Format.{within};
-ghost use Rattle.shapes.specs.Listing.{ListArena, ListScratch};
-ghost use Rattle.fit.specs.Fitting.{fitLent, fitChecks, noFace, fitted, fitOutput};
+ghost use Rattle.facefile.specs.Format.{faceOf};
+ghost use Rattle.lent.specs.Lent.{lent};
+ghost use Rattle.fit.specs.Fitting.{fitAsks, noFace};
 ghost use Rattle.fit.specs.Facing.{Placeable, PlacedIn};
-ghost use Rattle.fit.specs.Demand3.{Demand3};
+ghost use Rattle.fit.specs.Promise.{FitPromise};
 use crate::Fitted;
-use crate::lay::lay;
-use crate::pick::pick;
-use crate::take::is_against;
+use laying::lay::item_at;
+use laying::lay::lay;
 use parts::build::build;
+use picking::pick::pick;
 use stored::fill::store_lists;
+use stored::fill::stretch;
 use stored::item::m_of;
 use stored::item::p_of;
-use stored::item::read_item;
-use stored::table::COUNT;
-use stored::table::FROM;
-use stored::table::KIND;
-use stored::table::part_word;
 
-// The words that the arena and the scratch need.
-const WORDS: usize = 16_384;
-
-// Whether a side of the opening is 1 to 64,000.
-fn in_range(x: u32) -> bool
-    ensures { λ r. ⌜ r ≡ within 1 64000 x ⌝ }
-{
-    1 <= x && x <= 64_000
-}
-
-// How many words or levels a call is lent.
-struct Lent {
+// How many words the buffers have that a call is lent.
+struct Lengths {
     pub arena: usize,
     pub scratch: usize,
     pub output: usize,
@@ -41,32 +27,14 @@ struct Lent {
 
 // Checks 14 to 18, of the levels, the opening and the lengths of the lent buffers: the number of the first that fails,
 // or 0.
-fn lent_number(n: usize, g: usize, levels: &[u8], height: u32, width: u32, lent: Lent) -> u32
+fn asked_number(n: usize, g: usize, levels: &[u8], height: u32, width: u32, lengths: Lengths) -> u32
     requires { ⌜ g ≤ 64 ⌝ }
-    ensures { λ r. ⌜ r ≡ number (fitLent n g (now (levels .entry)) (outline height width) (lent .arena) (lent .scratch) (lent .output)) ⌝ }
+    ensures { λ r. ⌜ r ≡ number (fitAsks n g (now (levels .entry)) (outline height width) (lengths .arena) (lengths .scratch) (lengths .output)) ⌝ }
 {
-    if levels.len() != n {
-        return checks::LEVEL_COUNT;
-    }
-    if !shapes::levels_in_range(levels) {
-        return checks::LEVEL_RANGE;
-    }
-    if !in_range(height) {
-        return checks::OPENING;
-    }
-    if !in_range(width) {
-        return checks::OPENING;
-    }
-    if lent.arena < WORDS {
-        return checks::BUFFERS;
-    }
-    if lent.scratch < WORDS {
-        return checks::BUFFERS;
-    }
-    if lent.output < 5 * g {
-        return checks::OUTPUT;
-    }
-    checks::TAKEN
+    let buffers = lent::buffers_number(lengths.arena, lengths.scratch);
+    let words = checks::first_no(buffers, lent::output_number(5 * g, lengths.output));
+    let given = checks::first_no(lent::opening_number(height, width), words);
+    checks::first_no(lent::levels_number(n, levels), given)
 }
 
 fn refused(number: u32) -> Fitted
@@ -78,21 +46,6 @@ fn refused(number: u32) -> Fitted
         width: 0,
         area: 0,
         count: 0,
-    }
-}
-
-// The answer for a face of an item in one word, and its list's length.
-fn found(z: u32, count: u32) -> Fitted
-    ensures { λ r. ⌜ r ≡ record { number = 0; height = z / 65536; width = z % 65536; area = z / 65536 * (z % 65536); count = count } ⌝ }
-{
-    let height = m_of(z);
-    let width = p_of(z);
-    Fitted {
-        number: checks::TAKEN,
-        height,
-        width,
-        area: height * width,
-        count,
     }
 }
 
@@ -110,17 +63,24 @@ pub fn place_face(
     ensures { λ r. ⌜ PlacedIn (now (file .entry)) (outline height width) r (now (output .entry)) (now (output .exit)) ⌝ }
 {
     let root = store_lists(file, scratch);
-    let from = part_word(scratch, root, FROM);
-    let count = part_word(scratch, root, COUNT);
-    let across = is_against(part_word(scratch, root, KIND), false);
-    let picked = pick(scratch, from, count, across, height, width);
+    let list = stretch(scratch, root, facefile::BESIDE);
+    let picked = pick(scratch, list.from, list.count, list.across, height, width);
     if !picked.found {
         return refused(checks::FITS);
     }
     let place = picked.place;
-    let z = read_item(scratch, from, count, across, place);
+    let z = item_at(scratch, root, place);
+    let high = m_of(z);
+    let wide = p_of(z);
+    let count = list.count as u32;
     lay(scratch, root, gauges, place, 0, 0, output);
-    found(z, count as u32)
+    Fitted {
+        number: checks::TAKEN,
+        height: high,
+        width: wide,
+        area: high * wide,
+        count,
+    }
 }
 
 // Checks 1 to 18, then the smallest face inside the opening, its layout in the output and its list in the arena; 19 where
@@ -134,22 +94,18 @@ pub fn fit(
     scratch: &mut [u32],
     output: &mut [u32],
 ) -> Fitted
-    ensures { λ r. ⌜ r ≡ fitted (fitChecks (now (file .entry)) (now (levels .entry)) (outline height width) (now (arena .entry)) (now (scratch .entry)) (now (output .entry))) (outline height width) ⌝ }
-    ensures { λ _. ⌜ now (output .exit) ≡ fitOutput (fitChecks (now (file .entry)) (now (levels .entry)) (outline height width) (now (arena .entry)) (now (scratch .entry)) (now (output .entry))) (outline height width) (now (output .entry)) ⌝ }
-    ensures { λ _. ⌜ ListArena (fitChecks (now (file .entry)) (now (levels .entry)) (outline height width) (now (arena .entry)) (now (scratch .entry)) (now (output .entry))) (now (levels .entry)) (now (arena .entry)) (now (arena .exit)) ⌝ }
-    ensures { λ _. ⌜ ListScratch (fitChecks (now (file .entry)) (now (levels .entry)) (outline height width) (now (arena .entry)) (now (scratch .entry)) (now (output .entry))) (now (scratch .entry)) (now (scratch .exit)) ⌝ }
-    ensures { λ r. ⌜ Demand3 (fitChecks (now (file .entry)) (now (levels .entry)) (outline height width) (now (arena .entry)) (now (scratch .entry)) (now (output .entry))) (outline height width) r (now (output .entry)) (now (output .exit)) ⌝ }
+    ensures { λ r. ⌜ FitPromise (faceOf (now (file .entry))) (now (levels .entry)) (outline height width) (lent (now (arena .entry)) (now (scratch .entry)) (now (output .entry))) r (lent (now (arena .exit)) (now (scratch .exit)) (now (output .exit))) ⌝ }
 {
     let face = facefile::read(file);
     if face.number != checks::TAKEN {
         return refused(face.number);
     }
-    let lent = Lent {
+    let lengths = Lengths {
         arena: arena.len(),
         scratch: scratch.len(),
         output: output.len(),
     };
-    let number = lent_number(face.sizes, face.gauges, levels, height, width, lent);
+    let number = asked_number(face.sizes, face.gauges, levels, height, width, lengths);
     if number != checks::TAKEN {
         return refused(number);
     }

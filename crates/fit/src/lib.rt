@@ -1,8 +1,5 @@
 // The smallest layout of a face in an opening.
 mod fitting;
-mod lay;
-mod pick;
-mod take;
 
 pub use fitting::fit;
 pub use fitting::place_face;

@@ -4,31 +4,24 @@ use mathlib.Core.Path.{_≡_, refl, sym, ap, _∙_}
 use mathlib.Core.List.{List}
 use Prim.Native.Nat.{ℕ, _≤_}
 use native.Mathlib.Omega.{arith}
-use lib.Dec.{eqb}
 use lib.ListN.{length}
-use borrow.Author.Tests.{eq-eqb, ne-eqb}
-use Rattle.checks.specs.Check.{LevelCount}
-use Rattle.checks.specs.Answer.{taken, ask, number, outcome}
+use Rattle.checks.specs.Check.{Check, numberOf}
+use Rattle.checks.specs.Answer.{Answer, refused, Asked, number}
 use Rattle.checks.proofs.Answers.{same-taken}
-use Rattle.slicing.specs.Tree.{sizeCount, leastDepth}
+use Rattle.slicing.specs.Tree.{Tree, sizeCount, leastDepth}
 use Rattle.slicing.proofs.Depths.{depth-few, least-most}
 use Rattle.facefile.specs.declared.Face.{Face}
 use Rattle.facefile.specs.Format.{faceOf}
 use Rattle.facefile.specs.Summary.{summary}
-use Rattle.facefile.proofs.Answered.{Counts, answer-taken, answer-refused}
+use Rattle.facefile.proofs.Answered.{Counts}
 use Rattle.facefile.proofs.Taken.{face-taken}
+use Rattle.lent.specs.Questions.{levelCount}
+use Rattle.lent.proofs.Asking.{count-taken}
+use Rattle.lent.proofs.Calling.{counts, refused-by-file, refused-by-asked, asked-taken, taken-by-all}
 use Rattle.levels.specs.declared.depths.Depths.{Depths}
 use Rattle.levels.specs.Deep.{Deep}
-use Rattle.levels.specs.Levels.{topLevel, levelsFrom, levelsOf, levelsCall}
+use Rattle.levels.specs.Levels.{topLevel, levelsFrom, levelsOf, levelsCall, levelsFilled}
 use Rattle.levels.specs.Taken.{Fillable, OwnLevels}
-
--- The sizes of a taken file are few.
-pub sizes-few : (file : List ℕ) (f : Face) → f ≡ summary (faceOf file) → f .number ≡ 0 → f .sizes ≤ 512
-sizes-few file f known zero-number =
-    let counts = answer-taken f (faceOf file) known zero-number in
-    let most = face-taken file (counts .tree) (counts .face) .most in
-    let same = counts .sizes in
-    omega arith
 
 -- What the calls that fill the buffer ask for, and what they leave.
 module _ (file : List ℕ) (room : ℕ) (k : Fillable file room) where
@@ -54,30 +47,47 @@ module _ (file : List ℕ) (room : ℕ) (k : Fillable file room) where
       ∙ ap (λ (n : ℕ). topLevel (sizeCount t) (leastDepth t) n) (depths .1))
 
 module _ (file before : List ℕ) (f : Face) (known : f ≡ summary (faceOf file)) where
-  pub call-refused : (f .number ≡ 0 → ⊥) → (f .number ≡ number (levelsCall file (length before))) × (before ≡ outcome (levelsCall file (length before)) before (λ l. l))
+  abbrev answer : Answer Tree
+  answer = levelsCall (faceOf file) (length before)
+
+  abbrev asks : Tree → Asked
+  asks t = levelCount (sizeCount t) (length before)
+
+  -- What the call promises of the number and of the buffer after it.
+  abbrev pub Promised : ℕ → List ℕ → Type 0
+  Promised r after = (r ≡ number answer) × (after ≡ levelsFilled answer before)
+
+  refused-so : (r : ℕ) → (c : Check) × (answer ≡ refused c) × (r ≡ numberOf c) → Promised r before
+  refused-so r bad = rw (bad .1) (bad .2, refl)
+
+  pub call-refused : (f .number ≡ 0 → ⊥) → Promised (f .number) before
   unfolding levelsCall
-  call-refused h =
-      let bad = answer-refused f (faceOf file) known h in
-      rw (bad .1) (bad .2, refl)
+  call-refused other = refused-so (f .number) (refused-by-file (faceOf file) asks f known other)
 
-  module _ (zero-number : f .number ≡ 0) where
-    counts : Counts f (faceOf file)
-    counts = answer-taken f (faceOf file) known zero-number
+  module _ (zero : f .number ≡ 0) where
+    abbrev face : Counts f (faceOf file)
+    face = counts (faceOf file) asks f known zero
 
-    call-is : levelsCall file (length before) ≡ ask (eqb (length before) (sizeCount (counts .tree))) LevelCount (taken (levelsOf (counts .tree)))
-    unfolding levelsCall
-    call-is = rw (counts .face)
+    module _ (n : ℕ) (asked : n ≡ number (levelCount (f .sizes) (length before))) where
+      of-tree : n ≡ number (asks (face .tree))
+      of-tree = asked ∙ ap (λ (m : ℕ). number (levelCount m (length before))) (face .sizes)
 
-    pub call-count : (length before ≡ f .sizes → ⊥) → (14 ≡ number (levelsCall file (length before))) × (before ≡ outcome (levelsCall file (length before)) before (λ l. l))
-    call-count h =
-        let other : length before ≡ sizeCount (counts .tree) → ⊥ = λ e. h (e ∙ sym (counts .sizes)) in
-        rw (call-is, ne-eqb (length before) (sizeCount (counts .tree)) other) (refl, refl)
+      pub call-count : (n ≡ 0 → ⊥) → Promised n before
+      unfolding levelsCall
+      call-count other = refused-so n (refused-by-asked (faceOf file) asks f known zero n of-tree other)
 
-    module _ (same : length before ≡ f .sizes) where
-      pub call-fills : Fillable file (length before)
-      call-fills = record { tree = counts .tree; face = counts .face; as-many = same ∙ counts .sizes }
+      module _ (passed : n ≡ 0) where
+        pub call-fills : Fillable file (length before)
+        call-fills =
+            record {
+              tree = face .tree;
+              face = face .face;
+              as-many =
+                  count-taken (sizeCount (face .tree)) (length before)
+                  (asked-taken (faceOf file) asks f known zero n of-tree passed);
+            }
 
-      pub call-taken : (after : List ℕ) → OwnLevels file after → (0 ≡ number (levelsCall file (length before))) × (after ≡ outcome (levelsCall file (length before)) before (λ l. l))
-      unfolding OwnLevels
-      call-taken after own =
-          rw (call-is, eq-eqb (length before) (sizeCount (counts .tree)) (same ∙ counts .sizes)) (refl, own (counts .tree) (counts .face))
+        pub call-taken : (after : List ℕ) → OwnLevels file after → Promised 0 after
+        unfolding levelsCall OwnLevels
+        call-taken after own =
+            rw (taken-by-all (faceOf file) asks f known zero n of-tree passed) (refl, own (face .tree) (face .face))

@@ -3,10 +3,10 @@ use mathlib.Core.Bool.{true, false, cond}
 use mathlib.Core.List.{List, [], _∷_}
 use Prim.Native.Nat.{ℕ, zero, suc, _+_, _*_, _/_, _%_, _^_, min}
 use lib.Dec.{leb, ltb, eqb}
-use Rattle.checks.specs.Check.{LevelCount}
-use Rattle.checks.specs.Answer.{Answer, taken, ask, next}
+use Rattle.checks.specs.Answer.{Answer, outcome}
 use Rattle.slicing.specs.Tree.{Tree, sizeCount, leastDepth, mostDepth}
-use Rattle.facefile.specs.Format.{faceOf}
+use Rattle.lent.specs.Questions.{levelCount}
+use Rattle.lent.specs.Call.{callOn}
 
 -- The times that 4 divides r, at most `bound`.
 unfoldable pub timesFour : ℕ → ℕ → ℕ
@@ -35,6 +35,10 @@ levelsFrom top r (suc count) = min (uncutLevel r) top ∷ levelsFrom top (suc r)
 unfoldable pub levelsOf : Tree → List ℕ
 levelsOf t = levelsFrom (topLevel (sizeCount t) (leastDepth t) (mostDepth t)) 1 (sizeCount t)
 
--- The levels call makes checks 1 to 14 and gives n levels, for a buffer of `room` bytes.
-unfoldable pub levelsCall : List ℕ → ℕ → Answer (List ℕ)
-levelsCall file room = next (faceOf file) (λ t. ask (eqb room (sizeCount t)) LevelCount (taken (levelsOf t)))
+-- The levels call makes checks 1 to 14, for a buffer of `room` bytes. What is taken is the face.
+unfoldable pub levelsCall : Answer Tree → ℕ → Answer Tree
+levelsCall face room = callOn face (λ t. levelCount (sizeCount t) room)
+
+-- "The call fills a levels buffer of n bytes": it is as it was where the call is not taken.
+abbrev pub levelsFilled : Answer Tree → List ℕ → List ℕ
+levelsFilled r old = outcome r old levelsOf

@@ -6,6 +6,9 @@ ghost use Rattle.checks.specs.Answer.{taken};
 ghost use Rattle.slicing.specs.Tree.{Tree};
 ghost use Rattle.facefile.specs.Format.{faceOf};
 ghost use Rattle.levels.specs.Deep.{Deep, Room, joinedAt};
+use facefile::walk::Entry;
+use facefile::walk::FIRST_ENTRY;
+use facefile::walk::entry_at;
 
 // The smallest and the largest number of joins above a gauge.
 pub struct Depths {
@@ -23,13 +26,6 @@ fn greater(a: u8, b: u8) -> u8
     ensures { λ r. ⌜ r ≡ max a b ⌝ }
 {
     if a < b { b } else { a }
-}
-
-// A byte as an index.
-fn wide(x: u8) -> usize
-    ensures { λ r. ⌜ (r ≡ x) × (r < 256) ⌝ }
-{
-    x as usize
 }
 
 // A gauge is a new part, with no join above it there.
@@ -60,18 +56,20 @@ pub fn depths_of(file: &[u8]) -> Depths
 {
     let mut least = [0u8; 64];
     let mut most = [0u8; 64];
-    let mut at = 7;
+    let mut at = FIRST_ENTRY;
     let mut parts = 0;
     while at < file.len() {
-        if file[at] == facefile::GAUGE {
-            let count = wide(file[at + 1]);
-            add_gauge(&mut least, &mut most, parts);
-            parts += 1;
-            at += 2 + 4 * count;
-        } else {
-            add_join(&mut least, &mut most, parts - 2);
-            parts -= 1;
-            at += 1;
+        match entry_at(file, at) {
+            Entry::Gauge(g) => {
+                add_gauge(&mut least, &mut most, parts);
+                parts += 1;
+                at = g.next;
+            }
+            Entry::Join(_, next) => {
+                add_join(&mut least, &mut most, parts - 2);
+                parts -= 1;
+                at = next;
+            }
         }
     }
     Depths {

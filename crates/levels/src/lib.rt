@@ -8,8 +8,9 @@ use table::UNCUT;
 ghost use mathlib.Core.Path.{_≡_};
 ghost use Prim.Native.Nat.{_≤_, min};
 ghost use lib.ListN.{length};
-ghost use Rattle.checks.specs.Answer.{number, outcome};
-ghost use Rattle.levels.specs.Levels.{uncutLevel, topLevel, levelsFrom, levelsCall};
+ghost use Rattle.checks.specs.Answer.{number};
+ghost use Rattle.facefile.specs.Format.{faceOf};
+ghost use Rattle.levels.specs.Levels.{uncutLevel, topLevel, levelsFrom, levelsCall, levelsFilled};
 ghost use Rattle.levels.specs.Taken.{Fillable, OwnLevels};
 
 // The level of size r before it is cut to the top level, for a size of a face.
@@ -71,15 +72,16 @@ pub fn fill_taken(file: &[u8], levels: &mut [u8])
 // Checks 1 to 14, then the levels of the face's sizes in the buffer, which has as many bytes. A refusal leaves the
 // buffer as it was.
 pub fn fill(file: &[u8], levels: &mut [u8]) -> u32
-    ensures { λ r. ⌜ r ≡ number (levelsCall (now (file .entry)) (length (now (levels .entry)))) ⌝ }
-    ensures { λ _. ⌜ now (levels .exit) ≡ outcome (levelsCall (now (file .entry)) (length (now (levels .entry)))) (now (levels .entry)) (λ l. l) ⌝ }
+    ensures { λ r. ⌜ r ≡ number (levelsCall (faceOf (now (file .entry))) (length (now (levels .entry)))) ⌝ }
+    ensures { λ _. ⌜ now (levels .exit) ≡ levelsFilled (levelsCall (faceOf (now (file .entry))) (length (now (levels .entry)))) (now (levels .entry)) ⌝ }
 {
     let face = facefile::read(file);
     if face.number != checks::TAKEN {
         return face.number;
     }
-    if levels.len() != face.sizes {
-        return checks::LEVEL_COUNT;
+    let number = lent::level_count_number(face.sizes, levels.len());
+    if number != checks::TAKEN {
+        return number;
     }
     fill_taken(file, levels);
     checks::TAKEN

@@ -11,7 +11,7 @@ use Rattle.checks.specs.Check.{LazyList}
 use Rattle.checks.specs.Answer.{taken, next}
 use Rattle.checks.proofs.Answers.{not-both, same-taken, ask-taken, next-taken}
 use Rattle.slicing.specs.Recorded.{Recorded}
-use Rattle.arena.specs.Arena.{word, level, mWord, forward}
+use Rattle.arena.specs.Arena.{level, mWord, forward}
 use Rattle.arena.specs.Lazy.{nextWith, lastWith, trueP, held, walk, linksRight, linked, falling}
 use Rattle.arena.proofs.Cases.{lt-or-ge}
 use Rattle.arena.proofs.Frames.{next-here, next-past}
@@ -22,16 +22,16 @@ use Rattle.maxplus.specs.Pass.{Follows}
 pub each : (x y : Bool) → x ≡ true → y ≡ true → (x && y) ≡ true
 each x y e f = and-eq-true-iff x y .1 (e, f)
 
--- Word j + k of the last record with link k, of the head and those passed, and what one more record makes of it.
-abbrev pub lastWord : List ℕ → ℕ → List ℕ → ℕ → ℕ
-lastWord a j passed k = word a (lastWith a k 0 passed) (j + k)
+-- The record that is due with link k after those passed, and what one more record makes of it.
+abbrev pub due : List ℕ → List ℕ → ℕ → ℕ
+due a passed k = forward a (lastWith a k 0 passed) k
 
-module _ (a : List ℕ) (j : ℕ) (passed : List ℕ) (k r : ℕ) where
-  pub word-here : k < level a r → lastWord a j (passed ++ (r ∷ [])) k ≡ word a r (j + k)
-  word-here h = ap (λ (x : ℕ). word a x (j + k)) (last-more a k 0 passed r ∙ rw (lt-ltb k (level a r) h))
+module _ (a passed : List ℕ) (k r : ℕ) where
+  pub due-here : k < level a r → due a (passed ++ (r ∷ [])) k ≡ forward a r k
+  due-here h = ap (λ (x : ℕ). forward a x k) (last-more a k 0 passed r ∙ rw (lt-ltb k (level a r) h))
 
-  pub word-past : level a r ≤ k → lastWord a j (passed ++ (r ∷ [])) k ≡ lastWord a j passed k
-  word-past h = ap (λ (x : ℕ). word a x (j + k)) (last-more a k 0 passed r ∙ rw (le-ltb k (level a r) h))
+  pub due-past : level a r ≤ k → due a (passed ++ (r ∷ [])) k ≡ due a passed k
+  due-past h = ap (λ (x : ℕ). forward a x k) (last-more a k 0 passed r ∙ rw (le-ltb k (level a r) h))
 
 -- The links of one record.
 pub links-each : (a : List ℕ) (r : ℕ) (rs : List ℕ) (n : ℕ) → linksRight a r rs n ≡ true → (k : ℕ) → k < n → forward a r k ≡ nextWith a k rs
@@ -110,10 +110,6 @@ unfolding falling
 under-falling x [] count h u e = refl
 under-falling x (y ∷ l) count h u e = let t = u h in rw (lt-ltb _ _ (t .0), lt-ltb _ _ (t .1), e)
 
--- The record that is due with link k after those passed.
-abbrev pub due : List ℕ → List ℕ → ℕ → ℕ
-due a passed k = lastWord a 3 passed k
-
 -- The records rs follow those passed, on a walk of at most `most` more, and after the item (m, p) where `count` is not 0.
 pub record Rest (a : List ℕ) (most : ℕ) (passed : List ℕ) (count m p : ℕ) (rs : List ℕ) : Type 0 where
   pub walks : walk most a (due a passed 0) ≡ taken rs
@@ -157,11 +153,11 @@ module _ (a : List ℕ) (most : ℕ) (passed : List ℕ) (count m p r : ℕ) (he
         rest = rest;
         after =
             record {
-              walks = ap (λ (x : ℕ). walk most a x) (word-here a 3 passed 0 r some) ∙ walks;
+              walks = ap (λ (x : ℕ). walk most a x) (due-here a passed 0 r some) ∙ walks;
               links =
                   λ i h.
-                  lt-or-ge i (level a r) (λ b. word-here a 3 passed i r b ∙ own i b)
-                  (λ b. word-past a 3 passed i r b ∙ k .links i h ∙ next-past a i r rest b);
+                  lt-or-ge i (level a r) (λ b. due-here a passed i r b ∙ own i b)
+                  (λ b. due-past a passed i r b ∙ k .links i h ∙ next-past a i r rest b);
               chain = three .1;
               falls = order .1;
               under = order .0;
@@ -179,14 +175,14 @@ module _ (a : List ℕ) (most : ℕ) (passed : List ℕ) (count m p r : ℕ) (he
   unfolding linked held
   turn-back rest z k =
       let some = z .some in
-      let walks = ap (λ (x : ℕ). walk most a x) (sym (word-here a 3 passed 0 r some)) ∙ k .walks in
-      let own = links-all a r rest (level a r) (λ i h. sym (word-here a 3 passed i r h) ∙ k .links i (let b = z .most in omega arith)) in
+      let walks = ap (λ (x : ℕ). walk most a x) (sym (due-here a passed 0 r some)) ∙ k .walks in
+      let own = links-all a r rest (level a r) (λ i h. sym (due-here a passed i r h) ∙ k .links i (let b = z .most in omega arith)) in
       record {
         walks = ap (λ (x : ℕ). walk (suc most) a x) here ∙ walk-back a most r rest more (z .few) walks;
         links =
             λ i h.
             lt-or-ge i (level a r) (λ b. z .links i b ∙ sym (next-here a i r rest b))
-            (λ b. sym (word-past a 3 passed i r b) ∙ k .links i h ∙ sym (next-past a i r rest b));
+            (λ b. sym (due-past a passed i r b) ∙ k .links i h ∙ sym (next-past a i r rest b));
         chain =
             each (leb 1 (level a r)) _ (le-leb 1 (level a r) some)
             (each (leb (level a r) 8) _ (le-leb (level a r) 8 (z .most)) (each (linksRight a r rest (level a r)) (linked a rest) own (k .chain)));

@@ -7,10 +7,10 @@ use Prim.Native.Nat.{ℕ, _+_, _-_, _≤_, _<_, _%_, _^_}
 use native.Mathlib.Omega.{arith}
 use lib.ListN.{length, getD, set, length-set}
 use lib.Seq.{getD-set-same, getD-set-other}
-use Rattle.arena.specs.Arena.{word, level, forward}
+use Rattle.arena.specs.Arena.{word, level, forward, adjust}
 use Rattle.arena.specs.Turning.{Summable, Renewed}
 use Rattle.arena.proofs.Cases.{eq-or-ne, lt-or-ge}
-use Rattle.arena.proofs.Summing.{Renewing, renewing-start, renewing-more, renewing-done}
+use Rattle.arena.proofs.Summing.{Renewing, renewing-start, renewing-more, passing-done}
 use Rattle.maxplus.specs.Pass.{Decides, Are, Passed}
 
 -- The forwards of record r from link l up are in their places.
@@ -63,7 +63,7 @@ relinking-done a r first e l z done =
 -- The links of record r from l up are passed: it was due with each.
 pub record Passing (a : List ℕ) (r : ℕ) (first sums e s : List ℕ) (l : ℕ) : Type 0 where
   pub relinks : Relinking a r first e l
-  pub renews : Renewing a r sums s l
+  pub renews : Renewing (adjust a r) (level a r) sums s l
   pub was : (k : ℕ) → l ≤ k → k < level a r → getD first k 0 ≡ r
 
 module _ (a : List ℕ) (r : ℕ) (first sums : List ℕ) where
@@ -72,7 +72,7 @@ module _ (a : List ℕ) (r : ℕ) (first sums : List ℕ) where
       let high = can .high in
       record {
         relinks = relinking-start a r first l (l-is ∙ v-is) (omega arith) inside;
-        renews = renewing-start a r sums v l v-is l-is;
+        renews = renewing-start (adjust a r) (level a r) sums l (can .nine) (l-is ∙ v-is);
         was = λ k from inside. absurd (omega arith);
       }
 
@@ -85,7 +85,7 @@ module _ (a : List ℕ) (r : ℕ) (first sums : List ℕ) where
     passing-more can more n w v y n-is due w-is v-is y-is =
         record {
           relinks = relinking-more a r first e l w (z .relinks) more w-is;
-          renews = renewing-more a r sums s l can (z .renews) more (getD s l 0) v y refl v-is y-is;
+          renews = renewing-more (adjust a r) (level a r) sums s l (can .high) (z .renews) more (getD s l 0) v y refl v-is y-is;
           was =
               λ k from end. eq-or-ne k (l - 1)
               (λ same. subst (λ (i : ℕ). getD first i 0 ≡ r) (sym same) (sym (untouched more) ∙ sym n-is ∙ due))
@@ -107,7 +107,7 @@ module _ (a : List ℕ) (r : ℕ) (first sums : List ℕ) where
       passing-due = relinking-done a r first e l (z .relinks) done
 
       pub passing-sums : Summable a r sums → Renewed a r sums s
-      passing-sums can = renewing-done a r sums s l can (z .renews) done
+      passing-sums can = passing-done a r sums s l (z .renews) done
 
 -- No word from link 1 up to link k names a record.
 pub record Free (row : List ℕ) (k : ℕ) : Type 0 where

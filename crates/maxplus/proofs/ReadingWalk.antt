@@ -3,7 +3,7 @@
 use mathlib.Core.Path.{_≡_, refl, sym, ap, subst, _∙_}
 use mathlib.Core.Bool.{Bool, true, false, not, cond}
 use mathlib.Core.List.{List, [], _∷_, _++_, append-nil, append-assoc, map-append}
-use Prim.Native.Nat.{ℕ, suc, _+_, _-_, _≤_, _<_, _%_, _^_}
+use Prim.Native.Nat.{ℕ, suc, _+_, _-_, _≤_, _<_}
 use native.Mathlib.Omega.{arith}
 use lib.Dec.{eqb}
 use lib.ListN.{length, getD, replicate, length-append, length-map, List·getD-append}
@@ -19,13 +19,13 @@ use Rattle.arena.specs.Lazy.{lastWith, trueP, held, lazyList}
 use Rattle.arena.specs.Chain.{pUnder, after}
 use Rattle.arena.specs.Turning.{Summable, Enterable, Suffixes, TrueP, Renewed}
 use Rattle.arena.proofs.Cases.{lt-or-ge}
-use Rattle.arena.proofs.SumLaws.{sum-frame}
-use Rattle.arena.proofs.Frames.{after-in, after-out}
+use Rattle.arena.proofs.Summing.{suffixes-agree}
 use Rattle.arena.proofs.ListLaws.{held-length}
+use Rattle.arena.proofs.HeldLaws.{passedSums, sums-on}
 use Rattle.maxplus.specs.Read.{readItem, reading}
 use Rattle.maxplus.specs.Pass.{refusedReading, readAt, Decides, Stands, Are, Passed, Follows}
 use Rattle.maxplus.proofs.Decisions.{decided, refuted}
-use Rattle.maxplus.proofs.Following.{lastWord, word-here, word-past, due, Rest, Meets, Turn, turn, turn-back, rest-full, rest-over, rest-none}
+use Rattle.maxplus.proofs.Following.{due, due-here, due-past, Rest, Meets, Turn, turn, turn-back, rest-full, rest-over, rest-none}
 use Rattle.maxplus.proofs.Answering.{lazy-rest, rest-lazy, no-list, list-read}
 
 -- The row of links names the records that are due after those passed.
@@ -38,30 +38,17 @@ dues-first a first e head z k low high = z .here k low (omega arith)
 
 dues-more : (a : List ℕ) (r : ℕ) (passed first e : List ℕ) → Dues a passed first → Passed a r first e → Dues a (passed ++ (r ∷ [])) e
 dues-more a r passed first e f z k low high =
-    lt-or-ge k (level a r) (λ b. z .here k low b ∙ sym (word-here a 3 passed k r b))
-    (λ b. z .past k b ∙ f k low high ∙ sym (word-past a 3 passed k r b))
+    lt-or-ge k (level a r) (λ b. z .here k low b ∙ sym (due-here a passed k r b))
+    (λ b. z .past k b ∙ f k low high ∙ sym (due-past a passed k r b))
 
--- The adjusts that count after the records passed.
-abbrev pub adjusts : List ℕ → List ℕ → ℕ → ℕ
-adjusts a passed k = lastWord a 11 passed k
-
-sums-first : (a s : List ℕ) → Suffixes (adjust a 0) s → Suffixes (adjusts a []) s
+-- The sums behind the records passed.
+sums-first : (a s : List ℕ) → Suffixes (adjust a 0) s → Suffixes (passedSums a 0 []) s
 unfolding lastWith
 sums-first a s entered = entered
 
-sums-more : (a : List ℕ) (r : ℕ) (passed s : List ℕ) → Suffixes (after a (adjusts a passed) r) s → Suffixes (adjusts a (passed ++ (r ∷ []))) s
+sums-more : (a : List ℕ) (r : ℕ) (passed s : List ℕ) → Suffixes (after a (passedSums a 0 passed) r) s → Suffixes (passedSums a 0 (passed ++ (r ∷ []))) s
 sums-more a r passed s t =
-    record {
-      nine = t .nine;
-      at =
-          λ l low high. t .at l low high
-          ∙ ap (λ (n : ℕ). n % 2 ^ 32) (sum-frame (adjusts a (passed ++ (r ∷ []))) (after a (adjusts a passed) r) l 8 (λ k h. same k));
-    }
-  where
-    same : (k : ℕ) → after a (adjusts a passed) r k ≡ adjusts a (passed ++ (r ∷ [])) k
-    same k =
-        lt-or-ge k (level a r) (λ b. after-in a (adjusts a passed) r k b ∙ sym (word-here a 11 passed k r b))
-        (λ b. after-out a (adjusts a passed) r k b ∙ sym (word-past a 11 passed k r b))
+    suffixes-agree (after a (passedSums a 0 passed) r) (passedSums a 0 (passed ++ (r ∷ []))) s (λ k low high. sums-on a 0 passed r k) t
 
 -- One more item.
 abbrev itemOf : List ℕ → List ℕ → ℕ → Recorded
@@ -87,7 +74,7 @@ pub record Walking (a : List ℕ) (place : ℕ) (e s : List ℕ) (next count : �
   pub due-long : length e ≡ 8
   pub first : due a passed 0 ≡ next
   pub dues : Dues a passed e
-  pub sums : Suffixes (adjusts a passed) s
+  pub sums : Suffixes (passedSums a 0 passed) s
   pub down : (l : List Recorded) → lazyList a ≡ taken l → (rs : List ℕ) × Rest a (512 - count) passed count (before .m) (before .p) rs
   pub up : (rs : List ℕ) → Rest a (512 - count) passed count (before .m) (before .p) rs → lazyList a ≡ taken (held a 0 [] (passed ++ rs))
   pub met : 1 ≤ place → place ≤ count → getD (items (held a 0 [] passed)) (place - 1) (size 0 0) ≡ size (found .m) (found .p)
@@ -165,7 +152,7 @@ module _ (a : List ℕ) (place : ℕ) (e s : List ℕ) (next count : ℕ) (befor
     module _ (x : Read) (has-m : x .m ≡ mWord a next) (has-p : TrueP a next s (x .p)) where
       true-p : x .p ≡ trueP a 0 (w .passed) next
       unfolding trueP pUnder
-      true-p = has-p (adjusts a (w .passed)) (w .sums)
+      true-p = has-p (passedSums a 0 (w .passed)) (w .sums)
 
       meets-follows : Meets a (w .passed) count (before .m) (before .p) next → Follows count (before .m) (before .p) (x .m) (x .p)
       meets-follows z h = let f = z .follows h in let t = true-p in (omega arith, omega arith)
@@ -235,9 +222,9 @@ module _ (a : List ℕ) (place : ℕ) (e s : List ℕ) (next count : ℕ) (befor
                 few = omega arith;
                 counted = length-append (w .passed) (next ∷ []) ∙ ap (λ (n : ℕ). n + 1) (w .counted);
                 due-long = links .long ∙ w .due-long;
-                first = word-here a 3 (w .passed) 0 next (stands .some) ∙ sym (onward-is ∙ v-is);
+                first = due-here a (w .passed) 0 next (stands .some) ∙ sym (onward-is ∙ v-is);
                 dues = dues-more a next (w .passed) e e₂ (w .dues) links;
-                sums = sums-more a next (w .passed) s₂ (renewed (adjusts a (w .passed)) (w .sums));
+                sums = sums-more a next (w .passed) s₂ (renewed (passedSums a 0 (w .passed)) (w .sums));
                 down = down-on;
                 up = up-on;
                 met = met-on y (eqb (count + 1) place) refl m-is p-is;

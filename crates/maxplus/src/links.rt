@@ -8,6 +8,9 @@ ghost use Rattle.arena.specs.Arena.{level};
 ghost use Rattle.arena.specs.Chain.{Has};
 ghost use Rattle.arena.specs.Turning.{Summable, Renewed};
 ghost use Rattle.maxplus.specs.Pass.{Decides, Are, Passed};
+use arena::words::ADJUST;
+use arena::words::FORWARD;
+use arena::words::LEVEL;
 use arena::words::get;
 use arena::words::wide;
 
@@ -19,7 +22,7 @@ pub fn due_from_head(arena: &[u32], due: &mut [u32])
     let mut l = 8;
     while 1 < l {
         let k = l - 1;
-        due[k] = get(arena, 0, 3 + k);
+        due[k] = get(arena, 0, FORWARD + k);
         l = k;
     }
 }
@@ -32,14 +35,14 @@ pub fn pass_links(arena: &[u32], r: usize, due: &mut [u32], sums: &mut [u32]) ->
     ensures { λ b. ⌜ (b ≡ true → Passed (now (arena .entry)) r (now (due .entry)) (now (due .exit))) ⌝ }
     ensures { λ b. ⌜ (b ≡ true → Renewed (now (arena .entry)) r (now (sums .entry)) (now (sums .exit))) ⌝ }
 {
-    let mut l = wide(get(arena, r, 0));
+    let mut l = wide(get(arena, r, LEVEL));
     while 1 < l {
         let k = l - 1;
         if wide(due[k]) != r {
             return false;
         }
-        due[k] = get(arena, r, 3 + k);
-        sums[k] = std::num::wrapping_add_u32(sums[l], get(arena, r, 11 + k));
+        due[k] = get(arena, r, FORWARD + k);
+        sums[k] = std::num::wrapping_add_u32(sums[l], get(arena, r, ADJUST + k));
         l = k;
     }
     true

@@ -13,6 +13,9 @@ use crate::links::none_due;
 use crate::links::pass_links;
 use arena::sums::enter;
 use arena::sums::true_p;
+use arena::words::FORWARD;
+use arena::words::LEVEL;
+use arena::words::M;
 use arena::words::get;
 use arena::words::wide;
 
@@ -39,7 +42,7 @@ fn may_stand(arena: &[u32], count: u32, r: usize) -> bool
     if 512 < r {
         return false;
     }
-    let level = wide(get(arena, r, 0));
+    let level = wide(get(arena, r, LEVEL));
     if level < 1 {
         return false;
     }
@@ -56,7 +59,7 @@ fn item_at(arena: &[u32], r: usize, sums: &[u32]) -> Item
     ensures { λ z. ⌜ TrueP (now (arena .entry)) r (now (sums .entry)) (z .p) ⌝ }
 {
     Item {
-        m: get(arena, r, 1),
+        m: get(arena, r, M),
         p: true_p(arena, r, sums),
     }
 }
@@ -120,7 +123,7 @@ fn read_from_head(arena: &[u32], place: u32) -> Reading
     let mut sums = [0u32; 9];
     due_from_head(arena, &mut due);
     enter(arena, 0, &mut sums);
-    let mut next = wide(get(arena, 0, 3));
+    let mut next = wide(get(arena, 0, FORWARD));
     let mut count: u32 = 0;
     let mut before = Item { m: 0, p: 0 };
     let mut found = Item { m: 0, p: 0 };
@@ -138,7 +141,7 @@ fn read_from_head(arena: &[u32], place: u32) -> Reading
         count += 1;
         found = chosen(count == place, item, found);
         before = item;
-        next = wide(get(arena, next, 3));
+        next = wide(get(arena, next, FORWARD));
     }
     if !none_due(&due) {
         return refused(checks::LAZY_LIST);
@@ -154,7 +157,7 @@ pub fn read(arena: &[u32], place: u32) -> Reading
     if arena.len() < 16_384 {
         return refused(checks::BUFFERS);
     }
-    if get(arena, 0, 0) != 8 {
+    if get(arena, 0, LEVEL) != 8 {
         return refused(checks::LAZY_LIST);
     }
     read_from_head(arena, place)

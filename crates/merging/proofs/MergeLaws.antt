@@ -13,21 +13,20 @@ use Rattle.arena.specs.Lazy.{held}
 use Rattle.arena.specs.Chain.{All, Away, Linked, Same, pUnder, after, trues}
 use Rattle.arena.specs.Building.{Built, Cleared}
 use Rattle.arena.specs.Turning.{Suffixes}
+use Rattle.arena.specs.Carried.{carried}
 use Rattle.arena.proofs.Frames.{all-map, all-both, all-refl, same-shape, linked-frame, trues-frame}
 use Rattle.arena.proofs.PutLaws.{same-trans}
-use Rattle.merging.specs.Carried.{carried}
-use Rattle.merging.specs.Cut.{Falling, Searchable}
-use Rattle.merging.specs.Open.{OpenLinked, CutC, Closed}
-use Rattle.merging.specs.Settled.{lastSums}
-use Rattle.merging.specs.Cached.{Kept}
-use Rattle.merging.specs.Trio.{Roomy, Trio}
-use Rattle.merging.specs.Running.{Merging, Finished, RunsReady, RunsDone}
-use Rattle.merging.specs.Merge.{Mergeable, Merged}
 use Rattle.arena.proofs.Summing.{suffixes-none, suffixes-agree}
-use Rattle.merging.proofs.OpenLaws.{open-empty, ends-filled}
-use Rattle.merging.proofs.CarriedLaws.{carried-frame, carried-same}
-use Rattle.merging.proofs.ClosingLaws.{closed-value, closed-same}
-use Rattle.merging.proofs.HeldLaws.{held-carried}
+use Rattle.arena.proofs.CarriedLaws.{carried-frame, carried-same}
+use Rattle.arena.proofs.HeldLaws.{held-carried}
+use Rattle.searching.specs.Cut.{Falling, Searchable}
+use Rattle.splicing.specs.Open.{OpenLinked, EndsOf, Closed, lastSums}
+use Rattle.splicing.proofs.OpenLaws.{open-empty, ends-filled}
+use Rattle.splicing.proofs.ClosingLaws.{closed-value, closed-same}
+use Rattle.stepping.specs.Trio.{Kept, Roomy, Trio}
+use Rattle.stepping.specs.Running.{Task, Underway}
+use Rattle.merging.specs.Runs.{Finished, RunsReady, RunsDone}
+use Rattle.merging.specs.Merge.{Mergeable, Merged}
 
 -- The m of an ordered list falls.
 below-first : (a : List ℕ) (f : ℕ → ℕ) (m : ℕ) (rs : List ℕ) → ((z : Item) → List·Memᴰ z (items (carried a f rs)) → z .m < m) → All (λ x. mWord a x < m) rs
@@ -105,37 +104,46 @@ module _ (a b : List ℕ) (ho hn hc : ℕ) (xs ys : List ℕ) (g : Mergeable a h
   abbrev whole : List Recorded
   whole = mergeRecorded 0 (held a ho [] xs) (held a hn [] ys)
 
-  begins : Merging b b ho hn hc xs ys xs ys [] (replicate 8 hc) whole
+  abbrev task : Task
+  task = record { arena = b; result = hc; older = xs; newer = ys; all = whole }
+
+  begins : Underway task b ho hn (replicate 8 hc)
   unfolding carried trues
   begins =
       record {
-        runs =
+        xs = xs;
+        ys = ys;
+        cs = [];
+        merging =
             record {
-              waits =
+              runs =
                   record {
-                    lists = trio;
-                    older-order = subst (λ (l : List Recorded). Ordered (items l)) (sym older-still) (g .older-order);
-                    newer-order = subst (λ (l : List Recorded). Ordered (items l)) (sym newer-still) (g .newer-order);
-                    small = λ x y i j.
-                        g .small x y (subst (λ (l : List Recorded). List·Memᴰ x l) older-still i) (subst (λ (l : List Recorded). List·Memᴰ y l) newer-still j);
-                    older-room = still-room ho xs (g .older-result) (g .result-off-older) (g .older .linked) (g .older-room);
-                    newer-room = still-room hn ys (g .newer-result) (g .result-off-newer) (g .newer .linked) (g .newer-room);
+                    waits =
+                        record {
+                          lists = trio;
+                          older-order = subst (λ (l : List Recorded). Ordered (items l)) (sym older-still) (g .older-order);
+                          newer-order = subst (λ (l : List Recorded). Ordered (items l)) (sym newer-still) (g .newer-order);
+                          small = λ x y i j.
+                              g .small x y (subst (λ (l : List Recorded). List·Memᴰ x l) older-still i) (subst (λ (l : List Recorded). List·Memᴰ y l) newer-still j);
+                          older-room = still-room ho xs (g .older-result) (g .result-off-older) (g .older .linked) (g .older-room);
+                          newer-room = still-room hn ys (g .newer-result) (g .result-off-newer) (g .newer .linked) (g .newer-room);
+                        };
+                    gives = ap₂ (mergeRecorded 0) older-still newer-still;
                   };
-              gives = ap₂ (mergeRecorded 0) older-still newer-still;
-            };
-        confined =
-            record {
-              length-kept = refl;
-              level-kept = λ x. refl;
-              m-kept = λ x. refl;
-              result-sums = λ k few. refl;
-              records = λ x u v. (u, v, tt);
-              outside = λ x o n r u v. record { at = λ j few. refl };
+              confined =
+                  record {
+                    length-kept = refl;
+                    level-kept = λ x. refl;
+                    m-kept = λ x. refl;
+                    result-sums = λ k few. refl;
+                    records = λ x u v. (u, v, tt);
+                    outside = λ x o n r u v. record { at = λ j few. refl };
+                  };
             };
       }
 
   -- The runs were moved, and then the result was closed.
-  module _ (d e ends : List ℕ) (f : Finished b d ho hn hc xs ys ends whole) (close : Closed d e hc (f .cs) ends) where
+  module _ (d e ends : List ℕ) (f : Finished task d ho hn ends) (close : Closed d e hc (f .cs) ends) where
     abbrev cs : List ℕ
     cs = f .cs
 
@@ -171,7 +179,7 @@ module _ (a b : List ℕ) (ho hn hc : ℕ) (xs ys : List ℕ) (g : Mergeable a h
 module _ (a b : List ℕ) (ho hn : ℕ) (c : Cleared a 0 b) where
   pub merge-ready : ((xs : List ℕ) × (ys : List ℕ) × Mergeable a ho hn 0 xs ys) → RunsReady b ho hn (replicate 8 0)
   merge-ready p =
-      (b, 0, p .0, p .1, p .0, p .1, [], whole a b ho hn 0 (p .0) (p .1) (p .2) c (c .floor), begins a b ho hn 0 (p .0) (p .1) (p .2) c (c .floor))
+      (task a b ho hn 0 (p .0) (p .1) (p .2) c (c .floor), begins a b ho hn 0 (p .0) (p .1) (p .2) c (c .floor))
 
   -- The sums kept at the start are 0, as the adjusts of all three heads are.
   pub merge-kept : ((xs : List ℕ) × (ys : List ℕ) × Mergeable a ho hn 0 xs ys) → Kept b ho hn (replicate 8 0) (replicate 9 0) (replicate 9 0) (replicate 9 0)
@@ -191,14 +199,14 @@ module _ (a b : List ℕ) (ho hn : ℕ) (c : Cleared a 0 b) where
           (λ k low high. c .outside h apart .at (11 + k) (omega arith) ∙ built .still k high) suffixes-none
 
   module _ (d ends : List ℕ) (runs : RunsDone b d ho hn (replicate 8 0) ends) where
-    finished : (xs ys : List ℕ) (g : Mergeable a ho hn 0 xs ys) → Finished b d ho hn 0 xs ys ends (whole a b ho hn 0 xs ys g c (c .floor))
-    finished xs ys g = runs b 0 xs ys xs ys [] (whole a b ho hn 0 xs ys g c (c .floor)) (begins a b ho hn 0 xs ys g c (c .floor))
+    finished : (xs ys : List ℕ) (g : Mergeable a ho hn 0 xs ys) → Finished (task a b ho hn 0 xs ys g c (c .floor)) d ho hn ends
+    finished xs ys g = runs (task a b ho hn 0 xs ys g c (c .floor)) (begins a b ho hn 0 xs ys g c (c .floor))
 
-    pub merge-closes : ((xs : List ℕ) × (ys : List ℕ) × Mergeable a ho hn 0 xs ys) → (h : ℕ) × (cs : List ℕ) × OpenLinked d h cs × CutC d h cs ends
+    pub merge-closes : ((xs : List ℕ) × (ys : List ℕ) × Mergeable a ho hn 0 xs ys) → (h : ℕ) × (cs : List ℕ) × OpenLinked d h cs × EndsOf d h cs ends
     merge-closes p =
         let f = finished (p .0) (p .1) (p .2) in (0, f .cs, f .lists .result, f .lists .result-ends)
 
-    pub merge-done : (e : List ℕ) → ((h : ℕ) (cs : List ℕ) → OpenLinked d h cs → CutC d h cs ends → Closed d e h cs ends) → (xs ys : List ℕ) → Mergeable a ho hn 0 xs ys → Merged a e ho hn 0 xs ys
+    pub merge-done : (e : List ℕ) → ((h : ℕ) (cs : List ℕ) → OpenLinked d h cs → EndsOf d h cs ends → Closed d e h cs ends) → (xs ys : List ℕ) → Mergeable a ho hn 0 xs ys → Merged a e ho hn 0 xs ys
     merge-done e close xs ys g =
         let f = finished xs ys g in
         merged a b ho hn 0 xs ys g c (c .floor) d e ends f (close 0 (f .cs) (f .lists .result) (f .lists .result-ends))

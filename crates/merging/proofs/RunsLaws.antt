@@ -11,11 +11,13 @@ use borrow.Author.Tests.{leb-true, le-leb, lt-leb}
 use Rattle.slicing.specs.Recorded.{Recorded, mergeRecorded}
 use Rattle.arena.specs.Arena.{word, forward, adjust}
 use Rattle.arena.specs.Chain.{Linked, trues}
+use Rattle.arena.specs.Carried.{carried}
 use Rattle.arena.proofs.Cases.{lt-or-ge}
 use Rattle.arena.proofs.Walking.{count, count-is, next-none, next-first}
-use Rattle.merging.specs.Carried.{carried}
-use Rattle.merging.specs.Cut.{Searchable}
-use Rattle.merging.specs.Running.{Merging, StepReady, StepDone, bothWait, RunsReady, RunsDone}
+use Rattle.searching.specs.Cut.{Searchable}
+use Rattle.stepping.specs.Trio.{Trio}
+use Rattle.stepping.specs.Running.{Task, Merging, Underway, Both}
+use Rattle.merging.specs.Runs.{StepReady, StepDone, bothWait, RunsReady, RunsDone}
 
 -- The test of the loop.
 pub none-waits : (a : List ℕ) (ho hn x : ℕ) → x ≡ word a ho 3 → x < 1 → false ≡ bothWait a ho hn
@@ -26,26 +28,14 @@ pub newer-waits : (a : List ℕ) (ho hn x y : ℕ) (r : Bool) → x ≡ word a h
 unfolding bothWait
 newer-waits a ho hn x y r e some f t = t ∙ ap (leb 1) f ∙ sym (simp (le-leb 1 (word a ho 3) (omega arith)))
 
--- A merge on its way, whose lists are not named.
-pub record Standing (a₀ a : List ℕ) (ho hn hc : ℕ) (xs₀ ys₀ ends : List ℕ) (all : List Recorded) : Type 0 where
-  pub xs : List ℕ
-  pub ys : List ℕ
-  pub cs : List ℕ
-  pub merging : Merging a₀ a ho hn hc xs₀ ys₀ xs ys cs ends all
-
 -- What the loop keeps: every merge that was on its way at its start still is.
 pub record Goes (a a' : List ℕ) (ho hn : ℕ) (ends ends' : List ℕ) : Type 0 where
   pub length-kept : length a' ≡ length a
   pub ends-kept : length ends' ≡ length ends
-  pub still : (a₀ : List ℕ) (hc : ℕ) (xs₀ ys₀ xs ys cs : List ℕ) (all : List Recorded) → Merging a₀ a ho hn hc xs₀ ys₀ xs ys cs ends all → Standing a₀ a' ho hn hc xs₀ ys₀ ends' all
+  pub still : (t : Task) → Underway t a ho hn ends → Underway t a' ho hn ends'
 
 pub goes-start : (a : List ℕ) (ho hn : ℕ) (ends : List ℕ) → Goes a a ho hn ends ends
-goes-start a ho hn ends =
-    record {
-      length-kept = refl;
-      ends-kept = refl;
-      still = λ a₀ hc xs₀ ys₀ xs ys cs all g. record { xs = xs; ys = ys; cs = cs; merging = g };
-    }
+goes-start a ho hn ends = record { length-kept = refl; ends-kept = refl; still = λ t w. w }
 
 -- The records that wait, by the walks along the first link.
 abbrev pub waiting : List ℕ → ℕ → ℕ → ℕ
@@ -83,66 +73,57 @@ both-true : (a : List ℕ) (ho hn : ℕ) → 1 ≤ forward a ho 0 → 1 ≤ forw
 unfolding bothWait
 both-true a ho hn x y = simp (le-leb 1 (forward a ho 0) x, le-leb 1 (forward a hn 0) y)
 
--- A merge whose lists both have a record.
-record Both (a₀ a : List ℕ) (ho hn hc : ℕ) (xs₀ ys₀ ends : List ℕ) (all : List Recorded) : Type 0 where
-  r : ℕ
-  xs : List ℕ
-  s : ℕ
-  ys : List ℕ
-  cs : List ℕ
-  merging : Merging a₀ a ho hn hc xs₀ ys₀ (r ∷ xs) (s ∷ ys) cs ends all
-
-both-of : (a₀ a : List ℕ) (ho hn hc : ℕ) (xs₀ ys₀ ends : List ℕ) (all : List Recorded) → bothWait a ho hn ≡ true → Standing a₀ a ho hn hc xs₀ ys₀ ends all → Both a₀ a ho hn hc xs₀ ys₀ ends all
-both-of a₀ a ho hn hc xs₀ ys₀ ends all t h =
-    let lists = h .merging .runs .waits .lists in
-    let some = both-some a ho hn t in
-    let x = waits-some a ho (h .xs) (lists .older .linked) (some .0) in
-    let y = waits-some a hn (h .ys) (lists .newer .linked) (some .1) in
+-- A merge on its way where both heads have a first record.
+both-of : (t : Task) (a : List ℕ) (ho hn : ℕ) (ends : List ℕ) → bothWait a ho hn ≡ true → Underway t a ho hn ends → Both t a ho hn ends
+both-of t a ho hn ends e w =
+    let lists = w .merging .runs .waits .lists in
+    let some = both-some a ho hn e in
+    let x = waits-some a ho (w .xs) (lists .older .linked) (some .0) in
+    let y = waits-some a hn (w .ys) (lists .newer .linked) (some .1) in
     record {
       r = x .0;
       xs = x .1;
       s = y .0;
       ys = y .1;
-      cs = h .cs;
+      cs = w .cs;
       merging =
-          subst (λ (l : List ℕ). Merging a₀ a ho hn hc xs₀ ys₀ (x .0 ∷ x .1) l (h .cs) ends all) (y .2)
-          (subst (λ (l : List ℕ). Merging a₀ a ho hn hc xs₀ ys₀ l (h .ys) (h .cs) ends all) (x .2) (h .merging));
+          subst (λ (l : List ℕ). Merging t a ho hn (x .0 ∷ x .1) l (w .cs) ends) (y .2)
+          (subst (λ (l : List ℕ). Merging t a ho hn l (w .ys) (w .cs) ends) (x .2) (w .merging));
     }
 
-nothing-left : (a₀ a : List ℕ) (ho hn hc : ℕ) (xs₀ ys₀ xs ys cs ends : List ℕ) (all : List Recorded) → bothWait a ho hn ≡ false → Merging a₀ a ho hn hc xs₀ ys₀ xs ys cs ends all → mergeRecorded 0 (carried a (adjust a ho) xs) (carried a (adjust a hn) ys) ≡ []
+nothing-left : (a : List ℕ) (ho hn hc : ℕ) (xs ys cs ends : List ℕ) → bothWait a ho hn ≡ false → Trio a ho hn hc xs ys cs ends → mergeRecorded 0 (carried a (adjust a ho) xs) (carried a (adjust a hn) ys) ≡ []
 unfolding carried trues mergeRecorded
-nothing-left a₀ a ho hn hc xs₀ ys₀ [] ys cs ends all t g = refl
-nothing-left a₀ a ho hn hc xs₀ ys₀ (x ∷ xs) [] cs ends all t g = refl
-nothing-left a₀ a ho hn hc xs₀ ys₀ (x ∷ xs) (y ∷ ys) cs ends all t g =
-    let lists = g .runs .waits .lists in
+nothing-left a ho hn hc [] ys cs ends e lists = refl
+nothing-left a ho hn hc (x ∷ xs) [] cs ends e lists = refl
+nothing-left a ho hn hc (x ∷ xs) (y ∷ ys) cs ends e lists =
     absurd
     (true≢false
-    (sym (both-true a ho hn (forward-some a ho x xs (lists .older .linked)) (forward-some a hn y ys (lists .newer .linked))) ∙ t))
+    (sym (both-true a ho hn (forward-some a ho x xs (lists .older .linked)) (forward-some a hn y ys (lists .newer .linked))) ∙ e))
 
 module _ (a a' : List ℕ) (ho hn : ℕ) (ends ends' : List ℕ) (more : Bool) (g : Goes a a' ho hn ends ends') (m : more ≡ bothWait a' ho hn) where
   pub goes-done : more ≡ false → RunsDone a a' ho hn ends ends'
-  goes-done over a₀ hc xs₀ ys₀ xs ys cs all start =
-      let h = g .still a₀ hc xs₀ ys₀ xs ys cs all start in
+  goes-done over t start =
+      let w = g .still t start in
+      let lists = w .merging .runs .waits .lists in
       record {
-        xs = h .xs;
-        ys = h .ys;
-        cs = h .cs;
-        lists = h .merging .runs .waits .lists;
+        xs = w .xs;
+        ys = w .ys;
+        cs = w .cs;
+        lists = lists;
         gives =
-            sym (append-nil (carried a' (adjust a' hc) (h .cs)))
-            ∙ ap (λ (l : List Recorded). carried a' (adjust a' hc) (h .cs) ++ l) (sym (nothing-left a₀ a' ho hn hc xs₀ ys₀ (h .xs) (h .ys) (h .cs) ends' all (sym m ∙ over) (h .merging)))
-            ∙ h .merging .runs .gives;
-        confined = h .merging .confined;
+            sym (append-nil (carried a' (adjust a' (t .result)) (w .cs)))
+            ∙ ap (λ (l : List Recorded). carried a' (adjust a' (t .result)) (w .cs) ++ l)
+            (sym (nothing-left a' ho hn (t .result) (w .xs) (w .ys) (w .cs) ends' (sym m ∙ over) lists))
+            ∙ w .merging .runs .gives;
+        confined = w .merging .confined;
       }
 
-  module _ (t : more ≡ true) where
-    abbrev both : (a₀ : List ℕ) (hc : ℕ) (xs₀ ys₀ xs ys cs : List ℕ) (all : List Recorded) → Merging a₀ a ho hn hc xs₀ ys₀ xs ys cs ends all → Both a₀ a' ho hn hc xs₀ ys₀ ends' all
-    both a₀ hc xs₀ ys₀ xs ys cs all start =
-        both-of a₀ a' ho hn hc xs₀ ys₀ ends' all (sym m ∙ t) (g .still a₀ hc xs₀ ys₀ xs ys cs all start)
+  module _ (more-is : more ≡ true) where
+    abbrev both : (t : Task) → Underway t a ho hn ends → Both t a' ho hn ends'
+    both t start = both-of t a' ho hn ends' (sym m ∙ more-is) (g .still t start)
 
     pub goes-ready : RunsReady a ho hn ends → StepReady a' ho hn ends'
-    goes-ready p =
-        let b = both (p .0) (p .1) (p .2) (p .3) (p .4) (p .5) (p .6) (p .7) (p .8) in (p .1, b .r, b .xs, b .s, b .ys, b .cs, p .7, b .merging .runs)
+    goes-ready p = (p .0, both (p .0) (p .1))
 
     module _ (b ends'' : List ℕ) (d : StepDone a' b ho hn ends' ends'') where
       pub goes-turn : length b ≡ length a' → length ends'' ≡ length ends' → Goes a b ho hn ends ends''
@@ -150,21 +131,18 @@ module _ (a a' : List ℕ) (ho hn : ℕ) (ends ends' : List ℕ) (more : Bool) (
           record {
             length-kept = same-length ∙ g .length-kept;
             ends-kept = same-ends ∙ g .ends-kept;
-            still = λ a₀ hc xs₀ ys₀ xs ys cs all start.
-                let w = both a₀ hc xs₀ ys₀ xs ys cs all start in
-                let f = d a₀ hc xs₀ ys₀ (w .r) (w .xs) (w .s) (w .ys) (w .cs) all (w .merging) in
-                record { xs = f .xs; ys = f .ys; cs = f .cs; merging = f .merging };
+            still = λ t start. d t (both t start) .still;
           }
 
       pub goes-less : RunsReady a ho hn ends → waiting b ho hn < waiting a' ho hn
       goes-less p =
-          let w = both (p .0) (p .1) (p .2) (p .3) (p .4) (p .5) (p .6) (p .7) (p .8) in
-          let f = d (p .0) (p .1) (p .2) (p .3) (w .r) (w .xs) (w .s) (w .ys) (w .cs) (p .7) (w .merging) in
+          let w = both (p .0) (p .1) in
+          let f = d (p .0) w in
           let old = w .merging .runs .waits .lists in
-          let new = f .merging .runs .waits .lists in
+          let new = f .still .merging .runs .waits .lists in
           let x = counted a' ho (w .r ∷ w .xs) (old .older) in
           let y = counted a' hn (w .s ∷ w .ys) (old .newer) in
-          let u = counted b ho (f .xs) (new .older) in
-          let v = counted b hn (f .ys) (new .newer) in
+          let u = counted b ho (f .still .xs) (new .older) in
+          let v = counted b hn (f .still .ys) (new .newer) in
           let fewer = f .fewer in
           omega arith

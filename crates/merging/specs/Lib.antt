@@ -1,12 +1,4 @@
-pub mod Cut
-pub mod Lift
-pub mod Dropping
-pub mod Open
-pub mod Settled
-pub mod Cached
-pub mod Advance
-pub mod Walk
 pub mod Carried
 pub mod Trio
-pub mod Running
+pub mod Runs
 pub mod Merge

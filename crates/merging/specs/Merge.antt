@@ -9,7 +9,7 @@ use Rattle.arena.specs.Arena.{level}
 use Rattle.arena.specs.Lazy.{held}
 use Rattle.arena.specs.Chain.{Has, All, Away, Same}
 use Rattle.arena.specs.Building.{Built}
-use Rattle.merging.specs.Trio.{Roomy}
+use Rattle.stepping.specs.Trio.{Roomy}
 
 -- The lists xs and ys of the heads ho and hn, whose adjusts are 0, share nothing and hc is apart from both; they are ordered, and no sum of a p of each leaves 32 bits.
 pub record Mergeable (a : List ℕ) (ho hn hc : ℕ) (xs ys : List ℕ) : Type 0 where

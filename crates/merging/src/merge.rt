@@ -2,9 +2,9 @@
 ghost use mathlib.Core.List.{List};
 ghost use Prim.Native.Nat.{ℕ};
 ghost use Rattle.merging.specs.Merge.{Mergeable, Merged};
-use crate::close::close;
 use crate::runs::merge_runs;
 use arena::empty::clear_head;
+use splicing::close::close;
 
 // Makes the list of record 0 the merge of the lists of two heads: whole runs of records change lists at once, and an
 // adjust raises all that it covers. The sums of the heads and of the ends are kept beside the arena: 0 at the start, as

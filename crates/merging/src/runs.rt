@@ -1,22 +1,24 @@
 // The runs of the merge, one after the other, while both lists have a record.
 ghost use mathlib.Core.Path.{_≡_};
 ghost use Rattle.arena.specs.Chain.{Has};
-ghost use Rattle.merging.specs.Cached.{Kept};
-ghost use Rattle.merging.specs.Running.{StepReady, StepDone, bothWait, RunsReady, RunsDone};
-use crate::newer_step::newer_step;
-use crate::older_step::older_step;
+ghost use Rattle.stepping.specs.Trio.{Kept};
+ghost use Rattle.merging.specs.Runs.{StepReady, StepDone, bothWait, RunsReady, RunsDone};
+use arena::words::FORWARD;
+use arena::words::M;
 use arena::words::get;
 use arena::words::wide;
+use stepping::newer_step::newer_step;
+use stepping::older_step::older_step;
 
 // Whether both lists have a record.
 fn both_wait(arena: &[u32], older: usize, newer: usize) -> bool
     requires { ⌜ Has (now arena) older × Has (now arena) newer ⌝ }
     ensures { λ r. ⌜ r ≡ bothWait (now (arena .entry)) older newer ⌝ }
 {
-    if get(arena, older, 3) < 1 {
+    if get(arena, older, FORWARD) < 1 {
         return false;
     }
-    1 <= get(arena, newer, 3)
+    1 <= get(arena, newer, FORWARD)
 }
 
 // Moves a run of the list whose first m is the larger. At equal m the older list goes first.
@@ -34,10 +36,10 @@ fn step(
     ensures { λ _. ⌜ StepDone (now (arena .entry)) (now (arena .exit)) older newer (now (ends .entry)) (now (ends .exit)) ⌝ }
     ensures { λ _. ⌜ Kept (now (arena .exit)) older newer (now (ends .exit)) (now (olders .exit)) (now (newers .exit)) (now (lasts .exit)) ⌝ }
 {
-    let r = wide(get(arena, older, 3));
-    let s = wide(get(arena, newer, 3));
-    let top = get(arena, r, 1);
-    if get(arena, s, 1) <= top {
+    let r = wide(get(arena, older, FORWARD));
+    let s = wide(get(arena, newer, FORWARD));
+    let top = get(arena, r, M);
+    if get(arena, s, M) <= top {
         older_step(arena, older, newer, ends, olders, newers, lasts);
     } else {
         newer_step(arena, older, newer, ends, olders, newers, lasts);

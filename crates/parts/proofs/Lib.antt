@@ -1,3 +1,5 @@
+pub mod Written
+pub mod Loads
 pub mod CopyLaws
 pub mod PartLaws
 pub mod TurnedPart

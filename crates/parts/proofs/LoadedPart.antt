@@ -13,7 +13,7 @@ use Rattle.facefile.proofs.SizesIn.{in-length}
 use Rattle.arena.specs.Arena.{level, mWord, adjust}
 use Rattle.arena.specs.Lazy.{held}
 use Rattle.arena.specs.Chain.{All}
-use Rattle.arena.specs.Loading.{numbers, Loaded}
+use Rattle.parts.specs.Loading.{numbers, Loaded}
 use Rattle.merging.specs.Carried.{paired, carried}
 use Rattle.merging.proofs.HeldLaws.{held-carried, carried-sums}
 use Rattle.parts.specs.Part.{Part}

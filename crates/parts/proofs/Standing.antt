@@ -3,32 +3,36 @@
 use mathlib.Core.Path.{_≡_, refl, sym, ap, ap₂, subst, _∙_}
 use mathlib.Core.Bool.{Bool}
 use mathlib.Core.List.{List, [], _∷_}
-use Prim.Native.Nat.{ℕ, suc, _+_, _*_, _-_, _≤_, _<_}
+use Prim.Native.Nat.{ℕ, suc, _+_, _-_, _≤_, _<_}
 use native.Mathlib.Numerals.{add-one}
 use native.Mathlib.Omega.{arith}
 use lib.ListN.{length, getD, set, take, drop, length-set, length-append, length-drop}
 use lib.Seq.{getD-take, getD-drop, length-take-le}
 use Rattle.checks.specs.Answer.{taken}
-use Rattle.checks.proofs.Answers.{same-taken}
+use Rattle.slicing.specs.Item.{Item}
 use Rattle.slicing.specs.Tree.{Tree, gauge, sizesOf, gaugeCount, sizeCount}
 use Rattle.slicing.specs.Good.{Good}
 use Rattle.slicing.specs.Recorded.{Recorded, mergeRecorded, partRecorded}
 use Rattle.slicing.proofs.PartLists.{part-few}
 use Rattle.slicing.proofs.Depths.{depth-few}
-use Rattle.facefile.specs.Format.{State, start, faceOf}
+use Rattle.facefile.specs.declared.walk.GaugeEntry.{GaugeEntry}
+use Rattle.facefile.specs.declared.walk.Entry.{Entry}
+use Rattle.facefile.specs.declared.walk.Entry.the-variants.{Gauge, Join}
+use Rattle.facefile.specs.Format.{faceOf}
+use Rattle.facefile.specs.Kinds.{kindOf, Cut, across}
+use Rattle.facefile.specs.Sizes.{sizesIn}
 use Rattle.facefile.specs.Tracking.{flat}
-use Rattle.facefile.proofs.Took.{state, Cut}
+use Rattle.facefile.specs.Walk.{firstEntry, Walk, sizeBytesOf, GaugeAt, JoinAt, Finds}
+use Rattle.facefile.proofs.SizesIn.{in-length}
 use Rattle.facefile.proofs.Taken.{face-taken}
-use Rattle.facefile.proofs.Stacks.{reads-flat, sizes-join}
-use Rattle.facefile.proofs.PartArray.{Held, push-held, stack-few}
-use Rattle.facefile.proofs.Walk.{Walk, walk-start, walk-end, GaugeTurn, gauge-turn, JoinTurn, join-turn}
-use Rattle.facefile.proofs.WalkTurns.{turn-inside, turn-walk, turn-bytes, turn-sizes, turn-many, turn-good, turn-gauges}
+use Rattle.facefile.proofs.PartArray.{Held, push-held}
+use Rattle.facefile.proofs.WalkSteps.{walk-start, walk-end, found-gauge, found-join}
+use Rattle.facefile.proofs.WalkStack.{walk-parts, walk-sizes, walk-face, join-good, join-gauges}
 use Rattle.arena.specs.Chain.{Away}
-use Rattle.arena.specs.Loading.{numbers, Loadable, Loaded}
+use Rattle.parts.specs.Loading.{numbers, Loadable, Loaded}
 use Rattle.parts.specs.Part.{headOf, Part, Suits, Parts}
 use Rattle.parts.specs.Copying.{Copied}
 use Rattle.parts.specs.Joining.{turnedIf, Joinable, Joined}
-use Rattle.facefile.specs.Kinds.{kindOf, across}
 use Rattle.parts.specs.Building.{Buildable, Whole}
 use Rattle.parts.proofs.PartLaws.{away-out, part-copied}
 use Rattle.parts.proofs.PartStack.{parts-some, parts-total, parts-frame}
@@ -37,33 +41,30 @@ use Rattle.parts.proofs.FacingLists.{faces-suit, cut-part, cut-sizes, c
 
 pub record Standing (file levels a₀ a kinds : List ℕ) (at parts done : ℕ) : Type 0 where
   pub ready : Buildable file levels a₀
-  pub state : State
-  pub walk : Walk file (ready .tree) at state
-  pub count : length (state .stack) ≡ parts
+  pub stack : List Tree
+  pub walk : Walk file (ready .tree) at stack
+  pub count : length stack ≡ parts
+  pub few : parts ≤ 64
+  pub records : done ≤ 512
   pub length-kept : length a ≡ length a₀
   pub kinds-long : length kinds ≡ 64
-  pub kinds-held : Held kindOf kinds (state .stack)
-  pub stands : Parts levels a (state .stack) (done + 1)
+  pub kinds-held : Held kindOf kinds stack
+  pub stands : Parts levels a stack (done + 1)
 
-pub standing-start : (file levels a kinds : List ℕ) → Buildable file levels a → length kinds ≡ 64 → Standing file levels a a kinds 7 0 0
+pub standing-start : (file levels a kinds : List ℕ) → Buildable file levels a → length kinds ≡ 64 → Standing file levels a a kinds firstEntry 0 0
 standing-start file levels a kinds ready long =
     record {
       ready = ready;
-      state = start file;
+      stack = [];
       walk = walk-start file (ready .tree) (ready .face);
       count = refl;
+      few = omega arith;
+      records = omega arith;
       length-kept = refl;
       kinds-long = long;
       kinds-held = tt;
       stands = refl;
     }
-
--- The sizes of the parts on a stack of the walk are no more than the face's.
-sizes-few : (file : List ℕ) (t : Tree) (at : ℕ) (s : State) → Walk file t at s → length (flat sizesOf (s .stack)) ≤ sizeCount t
-sizes-few file t at s w =
-    let more = reads-flat sizesOf sizes-join (w .left) s (state [] (t ∷ []) (w .last)) (w .reads) in
-    let both = ap length (more .1) ∙ length-append (flat sizesOf (s .stack)) (more .0) in
-    omega arith
 
 module _ (file levels a₀ a kinds : List ℕ) (at parts done : ℕ) (k : Standing file levels a₀ a kinds at parts done) where
   abbrev face : Tree
@@ -75,98 +76,115 @@ module _ (file levels a₀ a kinds : List ℕ) (at parts done : ℕ) (k : Standi
   few-sizes : sizeCount face ≤ 512
   few-sizes = face-taken file face (k .ready .face) .most
 
-  module _ (more : at < length file) where
-    module _ (e : getD file at 0 ≡ 1) where
-      turn : GaugeTurn file face at (k .state)
-      turn = gauge-turn file face at (k .state) (k .walk) more e
+  module _ (r : Entry) (found : Finds file at r) where
+    module _ (g : GaugeEntry) (e : r ≡ Gauge g) where
+      abbrev here : GaugeAt file face at (k .stack) g
+      here = found-gauge file face at (k .stack) (k .walk) r found g e
+
+      abbrev bytes : List ℕ
+      bytes = sizeBytesOf file g
+
+      abbrev sizes : List Item
+      sizes = sizesIn (g .count) bytes
+
+      abbrev stack : List Tree
+      stack = gauge sizes ∷ k .stack
 
       pub gauge-room : parts < 64
-      gauge-room = let b = stack-few file face at (k .state) (k .walk) in let c = k .count in let f = turn .few in omega arith
+      gauge-room = let few = walk-parts file face (g .next) stack (here .walk) in let c = k .count in omega arith
 
-      pub gauge-inside : at + 2 + 4 * getD file (at + 1) 0 ≤ length file
-      gauge-inside = turn-inside file face at (k .state) turn
+      -- The gauge's sizes have levels, and records.
+      pub levels-left : done + g .count ≤ length levels
+      levels-left =
+          let whole = walk-sizes file face (g .next) stack (here .walk) in
+          let both = length-append (flat sizesOf (k .stack)) sizes in
+          let many = in-length (g .count) bytes in
+          let total = parts-total levels a (k .stack) (done + 1) (k .stands) in
+          let all = k .ready .as-many in
+          omega arith
 
-      module _ (n : ℕ) (counted : n ≡ getD file (at + 1) 0) where
-        as-many : length (turn .sizes) ≡ n
-        as-many = turn-many file face at (k .state) turn n counted
+      pub records-left : done + g .count < 513
+      records-left = let l = levels-left in let all = k .ready .as-many in let f = few-sizes in omega arith
 
-        -- The gauge's sizes have levels, and records.
-        pub levels-left : done + n ≤ length levels
-        levels-left =
-            let whole = sizes-few file face (at + 2 + 4 * turn .count) (turn .next) (turn .walk) in
-            let stack = ap (λ (s : List Tree). length (flat sizesOf s)) (turn .stack) ∙ length-append (flat sizesOf (k .state .stack)) (turn .sizes) in
-            let total = parts-total levels a (k .state .stack) (done + 1) (k .stands) in
-            let as-many-sizes = as-many in
-            let all = k .ready .as-many in
-            omega arith
+      abbrev own : List ℕ
+      own = take (done + g .count - done) (drop done levels)
 
-        pub records-left : done + n ≤ 512
-        records-left = let l = levels-left in let all = k .ready .as-many in let f = few-sizes in omega arith
+      own-long : length own ≡ g .count
+      own-long =
+          let left = length-drop done levels in
+          let l = levels-left in
+          length-take-le (done + g .count - done) (drop done levels) (omega arith) ∙ omega arith
 
-        abbrev bytes : List ℕ
-        bytes = take (at + 2 + 4 * n - (at + 2)) (drop (at + 2) file)
+      own-at : (i : ℕ) → i < g .count → getD own i 0 ≡ getD levels (done + i) 0
+      own-at i less = getD-take (done + g .count - done) (drop done levels) i 0 (omega arith) ∙ getD-drop done levels i 0
 
-        abbrev own : List ℕ
-        own = take (done + n - done) (drop done levels)
+      pub gauge-loads : Loadable a (513 + parts) (done + 1) bytes own
+      gauge-loads =
+          let long = standing-long in
+          let room = gauge-room in
+          let l = levels-left in
+          let records = records-left in
+          let many = own-long in
+          let sized = here .sized in
+          record {
+            head-has = omega arith;
+            some = omega arith;
+            has = omega arith;
+            fits = omega arith;
+            apart = λ i less same. omega arith;
+            low = λ i less. subst (λ (v : ℕ). 1 ≤ v) (sym (own-at i (omega arith))) (k .ready .low (done + i) (omega arith));
+            high = λ i less. subst (λ (v : ℕ). v ≤ 8) (sym (own-at i (omega arith))) (k .ready .high (done + i) (omega arith));
+            bytes = omega arith;
+          }
 
-        own-long : length own ≡ n
-        own-long =
-            let left = length-drop done levels in
-            let l = levels-left in
-            length-take-le (done + n - done) (drop done levels) (omega arith) ∙ omega arith
+      -- The parts below stand as they did, and the gauge on them.
+      module _ (b : List ℕ) (d : Loaded a (513 + parts) (done + 1) bytes own b) where
+        abbrev loaded : List ℕ
+        loaded = numbers (done + 1) (length own)
 
-        own-at : (i : ℕ) → i < n → getD own i 0 ≡ getD levels (done + i) 0
-        own-at i less = getD-take (done + n - done) (drop done levels) i 0 (omega arith) ∙ getD-drop done levels i 0
-
-        pub gauge-loads : Loadable a (513 + parts) (done + 1) bytes own
-        gauge-loads =
-            let long = standing-long in
-            let r = gauge-room in
-            let l = levels-left in
-            let records = records-left in
+        away : (x : ℕ) → ((done + 1 ≤ x) × (x < done + 1 + g .count) → ⊥) → Away x loaded
+        away x out =
             let many = own-long in
-            record {
-              head-has = omega arith;
-              some = omega arith;
-              has = omega arith;
-              fits = omega arith;
-              apart = λ i less same. omega arith;
-              low = λ i less. subst (λ (v : ℕ). 1 ≤ v) (sym (own-at i (omega arith))) (k .ready .low (done + i) (omega arith));
-              high = λ i less. subst (λ (v : ℕ). v ≤ 8) (sym (own-at i (omega arith))) (k .ready .high (done + i) (omega arith));
-              bytes = turn-bytes file face at (k .state) turn n counted ∙ ap (λ (m : ℕ). 4 * m) (sym own-long);
-            }
+            away-out (done + 1) (done + 1 + g .count) x loaded out (numbers-inside (done + 1) (done + 1) (length own) (done + 1 + g .count) (omega arith) (omega arith))
 
-        -- The parts below stand as they did, and the gauge on them.
-        pub standing-gauge : (b l : List ℕ) (v : ℕ) → Loaded a (513 + parts) (done + 1) bytes own b → v ≡ getD file at 0 → l ≡ set kinds parts v → Standing file levels a₀ b l (at + 2 + 4 * n) (parts + 1) (done + n)
-        standing-gauge b l v d kind stored =
-            let r = gauge-room in
+        below : Parts levels b (k .stack) (done + 1)
+        below =
+            let room = gauge-room in
             let records = records-left in
-            let many = own-long in
             let c = k .count in
+            parts-frame levels a b (k .stack) (done + 1) (d .long) (omega arith)
+            (λ x u w. d .outside x (λ e. omega arith) (away x (λ i. let v = i .0 in omega arith)))
+            (λ i less. d .outside (headOf i) (λ e. omega arith) (away (headOf i) (λ i. let v = i .1 in omega arith)))
+            (k .stands)
+
+        on-top : Part levels b (headOf (length (k .stack))) (done + 1) (done + g .count + 1) (partRecorded 0 (done + 1) (gauge sizes))
+        on-top =
+            let head : 513 + parts ≡ headOf (length (k .stack)) = ap (λ (i : ℕ). 513 + i) (sym (k .count)) in
+            let end : done + 1 + g .count ≡ done + g .count + 1 = omega arith in
+            rw (← head, ← end) (loaded-part levels a b (513 + parts) done (g .count) bytes own sizes refl own-at own-long d)
+
+        pub standing-gauge : (l : List ℕ) → l ≡ set kinds parts 0x01 → Standing file levels a₀ b l (g .next) (parts + 1) (done + g .count)
+        standing-gauge l stored =
+            let room = gauge-room in
+            let c = k .count in
+            let many = in-length (g .count) bytes in
             let kinds-room = k .kinds-long in
-            let z = turn .sizes in
-            let head : headOf (length (k .state .stack)) ≡ 513 + parts = ap (λ (i : ℕ). 513 + i) c in
-            let out : (x : ℕ) → (x < done + 1) → Away x (numbers (done + 1) (length own)) = λ x low. away-out (done + 1) (done + 1 + n) x (numbers (done + 1) (length own)) (λ i. let w = i .0 in omega arith) (numbers-inside (done + 1) (done + 1) (length own) (done + 1 + n) (omega arith) (omega arith)) in
-            let high : (x : ℕ) → 513 ≤ x → Away x (numbers (done + 1) (length own)) = λ x low. away-out (done + 1) (done + 1 + n) x (numbers (done + 1) (length own)) (λ i. let w = i .1 in omega arith) (numbers-inside (done + 1) (done + 1) (length own) (done + 1 + n) (omega arith) (omega arith)) in
-            let below : Parts levels b (k .state .stack) (done + 1) = parts-frame levels a b (k .state .stack) (done + 1) (d .long) (omega arith) (λ x u w. d .outside x (λ e. omega arith) (out x w)) (λ i less. d .outside (headOf i) (λ e. omega arith) (high (headOf i) (omega arith))) (k .stands) in
-            let here : Part levels b (headOf (length (k .state .stack))) (done + 1) (done + n + 1) (partRecorded 0 (done + 1) (gauge z)) = subst (λ (h : ℕ). Part levels b h (done + 1) (done + n + 1) (partRecorded 0 (done + 1) (gauge z))) (sym head) (subst (λ (hi : ℕ). Part levels b (513 + parts) (done + 1) hi (partRecorded 0 (done + 1) (gauge z))) (omega arith) (loaded-part levels a b (513 + parts) done n bytes own z (turn-sizes file face at (k .state) turn n counted) own-at own-long d)) in
-            let all : Parts levels b (gauge z ∷ k .state .stack) (done + n + 1) = (done + 1, (let s = as-many in omega arith), here, below) in
             record {
               ready = k .ready;
-              state = turn .next;
-              walk = turn-walk file face at (k .state) turn n counted;
-              count = ap length (turn .stack) ∙ ap suc c ∙ sym (add-one parts);
+              stack = stack;
+              walk = here .walk;
+              count = omega arith;
+              few = omega arith;
+              records = let left = records-left in omega arith;
               length-kept = d .long ∙ k .length-kept;
-              kinds-long = ap length stored ∙ length-set kinds parts v ∙ kinds-room;
-              kinds-held =
-                  push-held kindOf kinds l parts v (gauge z) (k .state .stack) (turn .next .stack) c (turn .stack) stored (omega arith)
-                  (kind ∙ e) (k .kinds-held);
-              stands = subst (λ (s : List Tree). Parts levels b s (done + n + 1)) (sym (turn .stack)) all;
+              kinds-long = ap length stored ∙ length-set kinds parts 0x01 ∙ kinds-room;
+              kinds-held = push-held kindOf kinds l parts 0x01 (gauge sizes) (k .stack) c stored (omega arith) refl (k .kinds-held);
+              stands = (done + 1, omega arith, on-top, below);
             }
 
-    module _ (e : getD file at 0 ≡ 1 → ⊥) where
-      joining : JoinTurn file face at (k .state)
-      joining = join-turn file face at (k .state) (k .walk) more e
+    module _ (kind behind : ℕ) (e : r ≡ Join kind behind) where
+      abbrev joining : JoinAt file face at (k .stack) kind behind
+      joining = found-join file face at (k .stack) (k .walk) r found kind behind e
 
       abbrev older : Tree
       older = joining .older
@@ -175,22 +193,22 @@ module _ (file levels a₀ a kinds : List ℕ) (at parts done : ℕ) (k : Standi
       newer = joining .newer
 
       abbrev rest : List Tree
-      rest = joining .parts
+      rest = joining .rest
 
       two : parts ≡ suc (suc (length rest))
-      two = sym (k .count) ∙ ap length (joining .stack-before)
+      two = sym (k .count) ∙ ap length (joining .two)
 
       pub join-parts : 2 ≤ parts
       join-parts = let t = two in omega arith
 
+      pub join-some : 1 ≤ parts
+      join-some = let t = two in omega arith
+
       below-two : parts - 2 ≡ length rest
       below-two = let t = two in omega arith
 
-      pub join-few : parts ≤ 64
-      join-few = let b = stack-few file face at (k .state) (k .walk) in let c = k .count in omega arith
-
       held : Held kindOf kinds (newer ∷ older ∷ rest)
-      held = subst (λ (s : List Tree). Held kindOf kinds s) (joining .stack-before) (k .kinds-held)
+      held = subst (λ (s : List Tree). Held kindOf kinds s) (joining .two) (k .kinds-held)
 
       older-kind : getD kinds (parts - 2) 0 ≡ kindOf older
       older-kind = ap (λ (i : ℕ). getD kinds i 0) below-two ∙ held .1 .0
@@ -199,7 +217,7 @@ module _ (file levels a₀ a kinds : List ℕ) (at parts done : ℕ) (k : Standi
       newer-kind = ap (λ (i : ℕ). getD kinds i 0) (add-one (parts - 2) ∙ ap suc below-two) ∙ held .0
 
       stand : Parts levels a (newer ∷ older ∷ rest) (done + 1)
-      stand = subst (λ (s : List Tree). Parts levels a s (done + 1)) (joining .stack-before) (k .stands)
+      stand = subst (λ (s : List Tree). Parts levels a s (done + 1)) (joining .two) (k .stands)
 
       abbrev mid : ℕ
       mid = stand .0
@@ -207,22 +225,15 @@ module _ (file levels a₀ a kinds : List ℕ) (at parts done : ℕ) (k : Standi
       abbrev lo : ℕ
       lo = stand .3 .0
 
-      records-few : done + 1 ≤ 513
-      records-few =
-          let total = parts-total levels a (k .state .stack) (done + 1) (k .stands) in
-          let some = sizes-few file face at (k .state) (k .walk) in
-          let f = few-sizes in
-          omega arith
-
       good : Good newer × Good older
-      good = turn-good file face at (k .state) (k .walk) joining
+      good = join-good file face at (k .stack) (k .walk) kind behind joining
 
       gauges-few : gaugeCount older + gaugeCount newer ≤ 64
-      gauges-few = turn-gauges file face at (k .state) (k .walk) joining
+      gauges-few = join-gauges file face at (k .stack) (k .walk) kind behind joining
 
-      module _ (kind : ℕ) (kind-is : kind ≡ getD file at 0) (s t : Bool) (s-is : s ≡ across (getD kinds (parts - 2) 0) kind) (t-is : t ≡ across (getD kinds (parts - 2 + 1) 0) kind) where
-        cut : Cut kind (joining .cut)
-        cut = rw kind-is (joining .kind)
+      module _ (s t : Bool) (s-is : s ≡ across (getD kinds (parts - 2) 0) kind) (t-is : t ≡ across (getD kinds (parts - 2 + 1) 0) kind) where
+        abbrev cut : Cut kind (joining .cut)
+        cut = joining .is-cut
 
         older-across : across (kindOf older) kind ≡ s
         older-across = sym (s-is ∙ ap (λ (x : ℕ). across x kind) older-kind)
@@ -234,9 +245,9 @@ module _ (file levels a₀ a kinds : List ℕ) (at parts done : ℕ) (k : Standi
         joinable =
             let long = standing-long in
             let some = parts-some levels a rest lo (stand .3 .3) in
-            let few = join-few in
+            let few = k .few in
             let enough = join-parts in
-            let records = records-few in
+            let records = k .records in
             let gauges = gauges-few in
             let first = stand .3 .1 in
             let second = stand .1 in
@@ -247,7 +258,7 @@ module _ (file levels a₀ a kinds : List ℕ) (at parts done : ℕ) (k : Standi
             record {
               low-place = omega arith;
               older-range = record { long = long; some = some; upward = omega arith; most = omega arith };
-              newer-range = record { long = long; some = omega arith; upward = omega arith; most = records };
+              newer-range = record { long = long; some = omega arith; upward = omega arith; most = omega arith };
               older = subst (λ (i : ℕ). Part levels a (headOf i) lo mid (partRecorded 0 lo older)) (sym below-two) (stand .3 .2);
               newer =
                   subst (λ (i : ℕ). Part levels a (headOf i) mid (done + 1) (partRecorded 0 mid newer)) (sym (add-one (parts - 2) ∙ ap suc below-two))
@@ -265,44 +276,68 @@ module _ (file levels a₀ a kinds : List ℕ) (at parts done : ℕ) (k : Standi
         pub join-ready : (lv : List ℕ) × (from : ℕ) × (middle : ℕ) × (to : ℕ) × (l : List Recorded) × (r : List Recorded) × Joinable lv a (parts - 2) from middle to l r s t
         join-ready = (levels, lo, mid, done + 1, partRecorded 0 lo older, partRecorded 0 mid newer, joinable)
 
-        pub standing-join : (b l : List ℕ) → ((lv : List ℕ) (from middle to : ℕ) (u v : List Recorded) → Joinable lv a (parts - 2) from middle to u v s t → Joined lv a b (parts - 2) from middle to u v s t) → l ≡ set kinds (parts - 2) kind → Standing file levels a₀ b l (at + 1) (parts - 1) done
-        standing-join b l join stored =
-            let j = join levels lo mid (done + 1) (partRecorded 0 lo older) (partRecorded 0 mid newer) joinable in
-            let few = join-few in
-            let enough = join-parts in
-            let records = records-few in
-            let first = stand .3 .1 in
-            let second = stand .1 in
-            let whole = cut-sizes kind (joining .cut) cut older newer in
-            let kinds-room = k .kinds-long in
-            let n = below-two in
-            let joined-list = ap₂ (mergeRecorded 0) (ap (λ (c : Bool). turnedIf c (partRecorded 0 lo older)) (sym older-across)) (ap (λ (c : Bool). turnedIf c (partRecorded 0 mid newer)) (sym newer-across)) ∙ cut-part kind (joining .cut) cut lo mid older newer first in
-            let here : Part levels b (headOf (length rest)) lo (done + 1) (partRecorded 0 lo (joining .cut older newer)) = subst (λ (i : ℕ). Part levels b (headOf i) lo (done + 1) (partRecorded 0 lo (joining .cut older newer))) n (subst (λ (z : List Recorded). Part levels b (headOf (parts - 2)) lo (done + 1) z) joined-list (j .part)) in
-            let under : Parts levels b rest lo = parts-frame levels a b rest lo (j .length-kept) (omega arith) (λ x u v. j .outside x u .0 v) (λ i less. j .outside (headOf i) (omega arith) .1 (omega arith) (omega arith)) (stand .3 .3) in
-            let all : Parts levels b (joining .cut older newer ∷ rest) (done + 1) = (lo, omega arith, here, under) in
-            record {
-              ready = k .ready;
-              state = joining .next;
-              walk = joining .walk;
-              count = let m = ap length (joining .stack) in omega arith;
-              length-kept = j .length-kept ∙ k .length-kept;
-              kinds-long = ap length stored ∙ length-set kinds (parts - 2) kind ∙ kinds-room;
-              kinds-held =
-                  push-held kindOf kinds l (parts - 2) kind (joining .cut older newer) rest (joining .next .stack) (sym n) (joining .stack) stored (omega arith)
-                  (cut-kind kind (joining .cut) cut older newer) (held .1 .1);
-              stands = subst (λ (x : List Tree). Parts levels b x (done + 1)) (sym (joining .stack)) all;
-            }
+        -- The parts below stand as they did, and the join on them.
+        module _ (b : List ℕ) (join : (lv : List ℕ) (from middle to : ℕ) (u v : List Recorded) → Joinable lv a (parts - 2) from middle to u v s t → Joined lv a b (parts - 2) from middle to u v s t) where
+          done-join : Joined levels a b (parts - 2) lo mid (done + 1) (partRecorded 0 lo older) (partRecorded 0 mid newer) s t
+          done-join = join levels lo mid (done + 1) (partRecorded 0 lo older) (partRecorded 0 mid newer) joinable
+
+          joined-list : mergeRecorded 0 (turnedIf s (partRecorded 0 lo older)) (turnedIf t (partRecorded 0 mid newer)) ≡ partRecorded 0 lo (joining .cut older newer)
+          joined-list =
+              ap₂ (mergeRecorded 0) (ap (λ (c : Bool). turnedIf c (partRecorded 0 lo older)) (sym older-across)) (ap (λ (c : Bool). turnedIf c (partRecorded 0 mid newer)) (sym newer-across))
+              ∙ cut-part kind (joining .cut) cut lo mid older newer (stand .3 .1)
+
+          join-below : Parts levels b rest lo
+          join-below =
+              let few = k .few in
+              let enough = join-parts in
+              let records = k .records in
+              let first = stand .3 .1 in
+              let second = stand .1 in
+              let n = below-two in
+              parts-frame levels a b rest lo (done-join .length-kept) (omega arith)
+              (λ x u v. done-join .outside x u .0 v)
+              (λ i less. done-join .outside (headOf i) (omega arith) .1 (omega arith) (omega arith))
+              (stand .3 .3)
+
+          join-on-top : Part levels b (headOf (length rest)) lo (done + 1) (partRecorded 0 lo (joining .cut older newer))
+          join-on-top =
+              subst (λ (i : ℕ). Part levels b (headOf i) lo (done + 1) (partRecorded 0 lo (joining .cut older newer))) below-two
+              (subst (λ (z : List Recorded). Part levels b (headOf (parts - 2)) lo (done + 1) z) joined-list (done-join .part))
+
+          pub standing-join : (l : List ℕ) → l ≡ set kinds (parts - 2) kind → Standing file levels a₀ b l behind (parts - 1) done
+          standing-join l stored =
+              let few = k .few in
+              let enough = join-parts in
+              let first = stand .3 .1 in
+              let second = stand .1 in
+              let whole = cut-sizes kind (joining .cut) cut older newer in
+              let kinds-room = k .kinds-long in
+              let n = below-two in
+              record {
+                ready = k .ready;
+                stack = joining .cut older newer ∷ rest;
+                walk = joining .walk;
+                count = omega arith;
+                few = omega arith;
+                records = k .records;
+                length-kept = done-join .length-kept ∙ k .length-kept;
+                kinds-long = ap length stored ∙ length-set kinds (parts - 2) kind ∙ kinds-room;
+                kinds-held =
+                    push-held kindOf kinds l (parts - 2) kind (joining .cut older newer) rest (sym n) stored (omega arith)
+                    (cut-kind kind (joining .cut) cut older newer) (held .1 .1);
+                stands = (lo, omega arith, join-on-top, join-below);
+              }
 
   module _ (over : length file ≤ at) where
-    last-stack : k .state .stack ≡ face ∷ []
-    last-stack = walk-end file face at (k .state) (k .walk) over
+    last-stack : k .stack ≡ face ∷ []
+    last-stack = walk-end file face at (k .stack) (k .walk) over
 
     root : Parts levels a (face ∷ []) (done + 1)
     root = subst (λ (s : List Tree). Parts levels a s (done + 1)) last-stack (k .stands)
 
     pub standing-whole : (b : List ℕ) (kind : ℕ) → Copied a 513 0 b → kind ≡ getD kinds 0 0 → (t : Tree) → faceOf file ≡ taken t → Whole file levels a₀ b kind t
     standing-whole b kind c kind-is t e =
-        let same : face ≡ t = same-taken face t (sym (k .ready .face) ∙ e) in
+        let same = walk-face file face at (k .stack) (k .walk) t e in
         let from : root .0 ≡ 1 = root .3 in
         let to : done + 1 ≡ 1 + sizeCount face = root .1 ∙ ap (λ (x : ℕ). x + sizeCount face) from in
         let here : Part levels a 513 1 (1 + sizeCount face) (partRecorded 0 1 face) = subst (λ (x : ℕ). Part levels a 513 1 x (partRecorded 0 1 face)) to (subst (λ (x : ℕ). Part levels a 513 x (done + 1) (partRecorded 0 x face)) from (root .2)) in

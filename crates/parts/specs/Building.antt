@@ -3,6 +3,7 @@ use mathlib.Core.Path.{_≡_}
 use mathlib.Core.List.{List}
 use Prim.Native.Nat.{ℕ, _+_, _≤_, _<_}
 use lib.ListN.{length, getD}
+use Rattle.checks.specs.Limits.{bufferWords}
 use Rattle.checks.specs.Answer.{taken}
 use Rattle.slicing.specs.Tree.{Tree, sizeCount}
 use Rattle.slicing.specs.Recorded.{partRecorded}
@@ -17,7 +18,7 @@ pub record Buildable (file levels a : List ℕ) : Type 0 where
   pub as-many : length levels ≡ sizeCount tree
   pub low : (i : ℕ) → i < length levels → 1 ≤ getD levels i 0
   pub high : (i : ℕ) → i < length levels → getD levels i 0 ≤ 8
-  pub long : 16_384 ≤ length a
+  pub long : bufferWords ≤ length a
 
 -- The face's list stands at record 0.
 pub record Whole (file levels a b : List ℕ) (kind : ℕ) (t : Tree) : Type 0 where

@@ -1,3 +1,4 @@
+pub mod Loading
 pub mod Part
 pub mod Copying
 pub mod Joining

@@ -8,14 +8,10 @@ ghost use Rattle.parts.specs.Building.{Buildable, Whole};
 use crate::heads::FIRST;
 use crate::heads::copy_head;
 use crate::join::join;
-use arena::load::load;
-
-// A byte as an index.
-fn wide(x: u8) -> usize
-    ensures { λ r. ⌜ (r ≡ x) × (r < 256) ⌝ }
-{
-    x as usize
-}
+use crate::load::load;
+use facefile::walk::Entry;
+use facefile::walk::FIRST_ENTRY;
+use facefile::walk::entry_at;
 
 // Builds the list of the whole face at record 0, each record with its lent level, and answers the kind of the face's
 // last entry. The parts that wait for their join stand on a stack: the heads of their lists, and their kinds.
@@ -24,33 +20,36 @@ pub fn build(file: &[u8], levels: &[u8], arena: &mut [u32]) -> u8
     ensures { λ kind. ⌜ ((t : Tree) → faceOf (now (file .entry)) ≡ taken t → Whole (now (file .entry)) (now (levels .entry)) (now (arena .entry)) (now (arena .exit)) kind t) ⌝ }
 {
     let mut kinds = [0u8; 64];
-    let mut at = 7;
+    let mut at = FIRST_ENTRY;
     let mut parts = 0;
     let mut size = 0;
     while at < file.len() {
-        let kind = file[at];
-        if kind == facefile::GAUGE {
-            let count = wide(file[at + 1]);
-            let end = at + 2 + 4 * count;
-            load(
-                arena,
-                FIRST + parts,
-                size + 1,
-                &file[at + 2..end],
-                &levels[size..size + count],
-            );
-            kinds[parts] = kind;
-            parts += 1;
-            size += count;
-            at = end;
-        } else {
-            let older = parts - 2;
-            let first = facefile::runs_across(kinds[older], kind);
-            let second = facefile::runs_across(kinds[older + 1], kind);
-            join(arena, older, first, second);
-            kinds[older] = kind;
-            parts -= 1;
-            at += 1;
+        match entry_at(file, at) {
+            Entry::Gauge(g) => {
+                let from = g.from;
+                let to = g.to;
+                let end = size + g.count;
+                load(
+                    arena,
+                    FIRST + parts,
+                    size + 1,
+                    &file[from..to],
+                    &levels[size..end],
+                );
+                kinds[parts] = facefile::GAUGE;
+                parts += 1;
+                size = end;
+                at = g.next;
+            }
+            Entry::Join(kind, next) => {
+                let older = parts - 2;
+                let first = facefile::runs_across(kinds[older], kind);
+                let second = facefile::runs_across(kinds[older + 1], kind);
+                join(arena, older, first, second);
+                kinds[older] = kind;
+                parts -= 1;
+                at = next;
+            }
         }
     }
     copy_head(arena, FIRST, 0);

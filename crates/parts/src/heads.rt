@@ -5,8 +5,8 @@ use arena::STRIDE;
 use arena::words::get;
 use arena::words::store;
 
-// The head of the first part on the stack. The next part's is the record after it.
-pub const FIRST: usize = 513;
+// The head of the first part on the stack: the first record that is no size's. The next part's is the record after it.
+pub const FIRST: usize = checks::limits::SIZES + 1;
 
 // Copies a head, and with it its list, to another record.
 pub fn copy_head(arena: &mut [u32], from: usize, to: usize)

@@ -9,9 +9,9 @@ use arena::turn::turn;
 use merging::merge::merge;
 
 // The heads that turned parts get, above those of all places of the stack.
-const OLDER_TURNED: usize = 577;
+const OLDER_TURNED: usize = FIRST + checks::limits::GAUGES;
 
-const NEWER_TURNED: usize = 578;
+const NEWER_TURNED: usize = OLDER_TURNED + 1;
 
 // The head of a list that runs the way it is joined: where it does not, it is turned to the spare head.
 fn facing(arena: &mut [u32], head: usize, spare: usize, turned: bool) -> usize

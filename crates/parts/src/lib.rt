@@ -2,3 +2,4 @@
 pub mod build;
 mod heads;
 mod join;
+mod load;

@@ -6,9 +6,10 @@ use Prim.Native.Nat.{ℕ}
 use Rattle.slicing.specs.Merge.{merge}
 use Rattle.slicing.specs.Shapes.{shapes}
 use Rattle.slicing.specs.Fit.{smallest, noTaller, indexOf, place}
+use Rattle.facefile.specs.Format.{faceOf}
 use Rattle.facefile.proofs.Example.{example as file, example-face}
 use Rattle.report.specs.Text.{facesText}
-use Rattle.report.specs.Faces.{answerPrinted, facesPrinted}
+use Rattle.report.specs.Faces.{facesPrinted}
 
 -- The text that the document shows.
 abbrev pub example : List ℕ
@@ -28,6 +29,6 @@ example =
     -- gauge 2 size 1 at 40 0
     0x67 ∷ 0x61 ∷ 0x75 ∷ 0x67 ∷ 0x65 ∷ 0x20 ∷ 0x32 ∷ 0x20 ∷ 0x73 ∷ 0x69 ∷ 0x7A ∷ 0x65 ∷ 0x20 ∷ 0x31 ∷ 0x20 ∷ 0x61 ∷ 0x74 ∷ 0x20 ∷ 0x34 ∷ 0x30 ∷ 0x20 ∷ 0x30 ∷ 0x0A ∷ []
 
-pub example-printed : facesPrinted file ≡ example
+pub example-printed : facesPrinted (faceOf file) ≡ example
 unfolding facesPrinted shapes merge smallest place noTaller indexOf facesText
-example-printed = ap answerPrinted example-face
+example-printed = ap facesPrinted example-face

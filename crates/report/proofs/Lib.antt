@@ -1,9 +1,6 @@
-pub mod Decimals
-pub mod Appends
-pub mod Copies
-pub mod Numbers
 pub mod LineLaws
 pub mod Rows
+pub mod Bounds
 pub mod Faces
 pub mod Example
 pub mod Levelling

@@ -6,6 +6,7 @@ use Prim.Native.Nat.{ℕ, _*_, _≤_, _<_}
 use native.Mathlib.Omega.{arith}
 use lib.ListN.{length, take, drop, length-take}
 use lib.Seq.{take-at, length-take-le}
+use Rattle.text.specs.Printing.{Printed}
 use Rattle.slicing.specs.Item.{Item}
 use Rattle.slicing.specs.Tree.{Tree, gaugeCount}
 use Rattle.slicing.specs.Shapes.{shapes}
@@ -17,15 +18,16 @@ use Rattle.facefile.specs.Format.{faceOf}
 use Rattle.facefile.specs.Summary.{summary}
 use Rattle.facefile.proofs.Answered.{answer-taken, answer-refused}
 use Rattle.facefile.proofs.Taken.{face-taken}
-use Rattle.shapes.specs.Listing.{listWords, writtenOver}
+use Rattle.lent.specs.Lent.{writtenOver}
+use Rattle.shapes.specs.Listing.{listWords}
 use Rattle.shapes.specs.Taken.{Wrote, WroteFace}
 use Rattle.shapes.proofs.WordLaws.{words-length as list-words-length}
 use Rattle.fit.specs.declared.Fitted.{Fitted}
 use Rattle.fit.specs.Fitting.{faceFound, faceWords}
 use Rattle.fit.specs.Facing.{PlacedFace, PlacedIn}
 use Rattle.report.specs.Text.{facesText, refusedText}
-use Rattle.report.specs.Printing.{Printed, textBytes}
-use Rattle.report.specs.Faces.{widest, pickPrinted, answerPrinted, facesPrinted, FacesText}
+use Rattle.report.specs.Room.{textBytes}
+use Rattle.report.specs.Faces.{widest, pickPrinted, facesPrinted, FacesText}
 use Rattle.report.specs.Telling.{Tallied, Levelled, Worked}
 use Rattle.report.proofs.Levelling.{sizes-most}
 
@@ -104,25 +106,25 @@ module _ (file levels : List ℕ) (gauges : ℕ) (arena items items' layout layo
           laid = laid-by t (smallest widest (shapes 0 t)) gauges layout layout' (c .ready .tallied .gauges-is) (face-placed .written);
         }
 
-    pub placed-text : (old new : List ℕ) (r : ℕ) → ((u : Tree) → Worked u face count items' gauges layout' → Printed (pickPrinted u (smallest widest (shapes 0 u))) old new r) → Printed (facesPrinted file) old new r
+    pub placed-text : (old new : List ℕ) (r : ℕ) → ((u : Tree) → Worked u face count items' gauges layout' → Printed (pickPrinted u (smallest widest (shapes 0 u))) old new r) → Printed (facesPrinted (faceOf file)) old new r
     unfolding facesPrinted
     placed-text old new r p =
-        other-text (pickPrinted t (smallest widest (shapes 0 t))) (facesPrinted file) old new r (sym (ap answerPrinted (c .ready .tallied .face))) (p t worked)
+        other-text (pickPrinted t (smallest widest (shapes 0 t))) (facesPrinted (faceOf file)) old new r (sym (ap facesPrinted (c .ready .tallied .face))) (p t worked)
 
 -- The whole file.
 module _ (file old new : List ℕ) (r : ℕ) where
-  pub text-short : length old < textBytes → r ≡ 0 → new ≡ old → FacesText file old new r
+  pub text-short : length old < textBytes → r ≡ 0 → new ≡ old → FacesText (faceOf file) old new r
   text-short less e same = record { long = λ enough. absurd (omega arith); short = λ _. (e, same) }
 
-  pub text-long : textBytes ≤ length old → Printed (facesPrinted file) old new r → FacesText file old new r
+  pub text-long : textBytes ≤ length old → Printed (facesPrinted (faceOf file)) old new r → FacesText (faceOf file) old new r
   text-long enough p = record { long = λ _. p; short = λ less. absurd (omega arith) }
 
 module _ (file : List ℕ) (f : Face) (read : f ≡ summary (faceOf file)) where
-  pub text-refused : (f .number ≡ 0 → ⊥) → (old new : List ℕ) (r : ℕ) → Printed (refusedText (f .number)) old new r → Printed (facesPrinted file) old new r
+  pub text-refused : (f .number ≡ 0 → ⊥) → (old new : List ℕ) (r : ℕ) → Printed (refusedText (f .number)) old new r → Printed (facesPrinted (faceOf file)) old new r
   unfolding facesPrinted
   text-refused other old new r p =
       let bad = answer-refused f (faceOf file) read other in
-      other-text (refusedText (f .number)) (facesPrinted file) old new r (ap refusedText (bad .2) ∙ sym (ap answerPrinted (bad .1))) p
+      other-text (refusedText (f .number)) (facesPrinted (faceOf file)) old new r (ap refusedText (bad .2) ∙ sym (ap facesPrinted (bad .1))) p
 
   -- The levels buffer is lent as many bytes.
   pub tallied-part : f .number ≡ 0 → (n : ℕ) → f .sizes ≡ n → Tallied file (f .gauges) n

@@ -8,9 +8,8 @@ use lib.ListN.{take}
 use lib.Seq.{take-take}
 use Rattle.facefile.specs.Format.{faceOf}
 use Rattle.facefile.proofs.Prefix.{face-prefix}
-use Rattle.report.specs.Faces.{answerPrinted, facesPrinted}
+use Rattle.report.specs.Faces.{facesPrinted}
 
-pub enough-read : (s : List ℕ) → facesPrinted (take 4_096 s) ≡ facesPrinted s
-unfolding facesPrinted
+pub enough-read : (s : List ℕ) → facesPrinted (faceOf (take 4_096 s)) ≡ facesPrinted (faceOf s)
 enough-read s =
-    ap answerPrinted (sym (face-prefix (take 4_096 s)) ∙ ap faceOf (take-take 2_247 4_096 s (omega arith)) ∙ face-prefix s)
+    ap facesPrinted (sym (face-prefix (take 4_096 s)) ∙ ap faceOf (take-take 2_247 4_096 s (omega arith)) ∙ face-prefix s)

@@ -17,7 +17,7 @@ use Rattle.facefile.specs.Format.{faceOf}
 use Rattle.facefile.proofs.Taken.{face-taken}
 use Rattle.stored.proofs.StoredLists.{place-in}
 use Rattle.report.specs.Text.{facesText}
-use Rattle.report.specs.Faces.{widest, pickPrinted, answerPrinted, facesPrinted}
+use Rattle.report.specs.Faces.{widest, pickPrinted, facesPrinted}
 
 pub something-fits : (file : List ℕ) (t : Tree) → faceOf file ≡ taken t → smallest widest (shapes 0 t) ≡ nothing → ⊥
 something-fits file t face e =
@@ -29,10 +29,10 @@ something-fits file t face e =
     nothing-within widest (shapes 0 t) e .none first is-in (record { low = omega arith; narrow = omega arith })
 
 -- So the text of a taken file is that of an item that is picked.
-pub face-printed : (file : List ℕ) (t : Tree) → faceOf file ≡ taken t → (z : Item) × (smallest widest (shapes 0 t) ≡ picked z) × (facesPrinted file ≡ facesText (shapes 0 t) z (words t (place 0 t z 0 0)))
+pub face-printed : (file : List ℕ) (t : Tree) → faceOf file ≡ taken t → (z : Item) × (smallest widest (shapes 0 t) ≡ picked z) × (facesPrinted (faceOf file) ≡ facesText (shapes 0 t) z (words t (place 0 t z 0 0)))
 unfolding facesPrinted
 face-printed file t face = by (smallest widest (shapes 0 t)) refl
   where
-    by : (p : Pick) → smallest widest (shapes 0 t) ≡ p → (z : Item) × (smallest widest (shapes 0 t) ≡ picked z) × (facesPrinted file ≡ facesText (shapes 0 t) z (words t (place 0 t z 0 0)))
+    by : (p : Pick) → smallest widest (shapes 0 t) ≡ p → (z : Item) × (smallest widest (shapes 0 t) ≡ picked z) × (facesPrinted (faceOf file) ≡ facesText (shapes 0 t) z (words t (place 0 t z 0 0)))
     by nothing e = absurd (something-fits file t face e)
-    by (picked z) e = (z, e, ap answerPrinted face ∙ ap (pickPrinted t) e)
+    by (picked z) e = (z, e, ap facesPrinted face ∙ ap (pickPrinted t) e)

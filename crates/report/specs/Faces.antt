@@ -3,15 +3,15 @@ use mathlib.Core.Path.{_≡_}
 use mathlib.Core.List.{List}
 use Prim.Native.Nat.{ℕ, _≤_, _<_}
 use lib.ListN.{length}
+use Rattle.text.specs.Printing.{Printed}
 use Rattle.checks.specs.Check.{Fits, numberOf}
 use Rattle.checks.specs.Answer.{Answer, refused, taken}
 use Rattle.slicing.specs.Tree.{Tree}
 use Rattle.slicing.specs.Shapes.{shapes}
 use Rattle.slicing.specs.Layout.{Outline, outline}
 use Rattle.slicing.specs.Fit.{Pick, nothing, picked, smallest, place, words}
-use Rattle.facefile.specs.Format.{faceOf}
 use Rattle.report.specs.Text.{facesText, refusedText}
-use Rattle.report.specs.Printing.{Printed, textBytes}
+use Rattle.report.specs.Room.{textBytes}
 
 -- The opening, 64,000 by 64,000.
 abbrev pub widest : Outline
@@ -22,15 +22,12 @@ abbrev pub pickPrinted : Tree → Pick → List ℕ
 pickPrinted t nothing = refusedText (numberOf Fits)
 pickPrinted t (picked z) = facesText (shapes 0 t) z (words t (place 0 t z 0 0))
 
-abbrev pub answerPrinted : Answer Tree → List ℕ
-answerPrinted (refused c) = refusedText (numberOf c)
-answerPrinted (taken t) = pickPrinted t (smallest widest (shapes 0 t))
-
--- What `faces` prints for a file of these bytes.
-unfoldable pub facesPrinted : List ℕ → List ℕ
-facesPrinted file = answerPrinted (faceOf file)
+-- What `faces` prints for a file, by the face that it means.
+unfoldable pub facesPrinted : Answer Tree → List ℕ
+facesPrinted (refused c) = refusedText (numberOf c)
+facesPrinted (taken t) = pickPrinted t (smallest widest (shapes 0 t))
 
 -- The text of the file stands in a buffer with room for every text, and the answer is its length. A shorter buffer is as it was, and the answer is 0.
-pub record FacesText (file old new : List ℕ) (r : ℕ) : Type 0 where
-  pub long : textBytes ≤ length old → Printed (facesPrinted file) old new r
+pub record FacesText (face : Answer Tree) (old new : List ℕ) (r : ℕ) : Type 0 where
+  pub long : textBytes ≤ length old → Printed (facesPrinted face) old new r
   pub short : length old < textBytes → (r ≡ 0) × (new ≡ old)

@@ -1,5 +1,5 @@
 pub mod Text
-pub mod Printing
-pub mod Appending
+pub mod Room
+pub mod WordLines
 pub mod Faces
 pub mod Telling

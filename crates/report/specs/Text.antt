@@ -1,46 +1,9 @@
 -- Document 01, what the program `faces` prints, in bytes: the text of a face that is taken, and the line of one that is refused.
-use mathlib.Core.Bool.{true, false}
 use mathlib.Core.List.{List, [], _∷_, _++_}
-use Prim.Native.Nat.{ℕ, zero, suc, _+_, _*_, _/_, _%_}
-use lib.Dec.{ltb}
+use Prim.Native.Nat.{ℕ, _+_, _*_}
 use lib.ListN.{length}
+use Rattle.text.specs.Fields.{space, newline, field, named}
 use Rattle.slicing.specs.Item.{Item, height, width}
-
--- The byte of a digit: byte 30 is "0".
-abbrev pub digit : ℕ → ℕ
-digit d = 0x30 + d
-
--- The digits of n in base ten by at most `times` divisions: those of n / 10, and then the last; where n is below 10, n itself.
-unfoldable pub decimalBy : ℕ → ℕ → List ℕ
-decimalBy zero n = digit n ∷ []
-decimalBy (suc times) n =
-    elim (ltb n 10) [
-      | true ↦ digit n ∷ []
-      | false ↦ decimalBy times (n / 10) ++ (digit (n % 10) ∷ [])
-    ]
-
--- A number in base ten, without leading zeros. n divisions are enough: each makes a number from 10 on smaller. (`decimal-small` and `decimal-large` of proofs/Decimals.antt are the two rules of it without that count.)
-unfoldable pub decimal : ℕ → List ℕ
-unfolding decimalBy
-decimal n = decimalBy n n
-
--- Byte 20, " ".
-abbrev pub space : ℕ
-space = 0x20
-
--- "Each line ends with byte 0A."
-abbrev pub newline : ℕ
-newline = 0x0A
-
--- A number, and the byte that ends it.
-unfoldable pub field : ℕ → ℕ → List ℕ
-unfolding decimal
-field n end = decimal n ++ (end ∷ [])
-
--- Words, and then a number with the byte that ends it.
-unfoldable pub named : List ℕ → ℕ → ℕ → List ℕ
-unfolding field
-named words n end = words ++ field n end
 
 -- "faces "
 abbrev pub facesWord : List ℕ
@@ -66,7 +29,7 @@ atWord = 0x61 ∷ 0x74 ∷ 0x20 ∷ []
 abbrev pub refusedWord : List ℕ
 refusedWord = 0x72 ∷ 0x65 ∷ 0x66 ∷ 0x75 ∷ 0x73 ∷ 0x65 ∷ 0x64 ∷ 0x20 ∷ []
 
--- "Item lines are height, width".
+-- "Item lines are height, width", and "each line ends with byte 0A".
 unfoldable pub itemLine : ℕ → ℕ → List ℕ
 unfolding field
 itemLine h w = field h space ++ field w newline

@@ -2,10 +2,12 @@
 ghost use mathlib.Core.Path.{_≡_};
 ghost use Prim.Native.Nat.{_*_, _≤_};
 ghost use lib.ListN.{length};
+ghost use Rattle.text.specs.Printing.{Printed, Counted};
 ghost use Rattle.slicing.specs.Tree.{Tree};
 ghost use Rattle.slicing.specs.Shapes.{shapes as shapesOf};
 ghost use Rattle.slicing.specs.Fit.{smallest};
-ghost use Rattle.report.specs.Printing.{Printed, Counted, textBytes};
+ghost use Rattle.facefile.specs.Format.{faceOf};
+ghost use Rattle.report.specs.Room.{textBytes};
 ghost use Rattle.report.specs.Faces.{widest, pickPrinted, facesPrinted, FacesText};
 ghost use Rattle.report.specs.Telling.{Tallied, Levelled, Worked};
 use crate::TEXT;
@@ -84,7 +86,7 @@ fn placed_text(
 ) -> usize
     requires { ⌜ Levelled (now file) (now levels) gauges ⌝ }
     requires { ⌜ (16384 ≤ length (now words)) × (textBytes ≤ length (now text)) ⌝ }
-    ensures { λ r. ⌜ Printed (facesPrinted (now (file .entry))) (now (text .entry)) (now (text .exit)) r ⌝ }
+    ensures { λ r. ⌜ Printed (facesPrinted (faceOf (now (file .entry)))) (now (text .entry)) (now (text .exit)) r ⌝ }
     ensures { λ r. ⌜ Counted textBytes (now (text .exit)) r ⌝ }
 {
     let mut items = items_room();
@@ -98,7 +100,7 @@ fn placed_text(
 fn taken_text(file: &[u8], gauges: usize, levels: &mut [u8], text: &mut [u8]) -> usize
     requires { ⌜ Tallied (now file) gauges (length (now levels)) ⌝ }
     requires { ⌜ textBytes ≤ length (now text) ⌝ }
-    ensures { λ r. ⌜ Printed (facesPrinted (now (file .entry))) (now (text .entry)) (now (text .exit)) r ⌝ }
+    ensures { λ r. ⌜ Printed (facesPrinted (faceOf (now (file .entry)))) (now (text .entry)) (now (text .exit)) r ⌝ }
     ensures { λ r. ⌜ Counted textBytes (now (text .exit)) r ⌝ }
 {
     let mut words = words_room();
@@ -109,7 +111,7 @@ fn taken_text(file: &[u8], gauges: usize, levels: &mut [u8], text: &mut [u8]) ->
 // The text that `faces` prints for a file of these bytes, in a buffer with room for every text. Answers its length; 0,
 // with the buffer as it was, where there is less room. The file's checks are made once, and its list is built once.
 pub fn faces_text(file: &[u8], text: &mut [u8]) -> usize
-    ensures { λ r. ⌜ FacesText (now (file .entry)) (now (text .entry)) (now (text .exit)) r ⌝ }
+    ensures { λ r. ⌜ FacesText (faceOf (now (file .entry))) (now (text .entry)) (now (text .exit)) r ⌝ }
     ensures { λ r. ⌜ Counted textBytes (now (text .exit)) r ⌝ }
 {
     if text.len() < TEXT {

@@ -1,7 +1,6 @@
 // The text that the program `faces` prints, as bytes in a lent buffer.
 mod face;
 mod lines;
-mod put;
 mod render;
 
 pub use face::faces_text;

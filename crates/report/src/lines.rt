@@ -1,15 +1,17 @@
-// The lines of the text, written into a buffer at a place. Each function answers the place after its lines.
-ghost use Prim.Native.Nat.{_+_, _*_, _/_, _≤_};
+// The lines of the text, written into a buffer at a place. Each function asks room for its lines, and answers the place
+// after them.
+ghost use Prim.Native.Nat.{_+_, _≤_};
 ghost use lib.ListN.{length};
+ghost use Rattle.text.specs.Appending.{Appended};
 ghost use Rattle.report.specs.Text.{itemLine, bestLine, gaugeLine, gaugeLines};
-ghost use Rattle.report.specs.Appending.{Appended, wordLines};
-use crate::put::write_field;
-use crate::put::write_named;
+ghost use Rattle.report.specs.WordLines.{wordLines};
+use text::write_field;
+use text::write_named;
 
 // An item: height, width.
 fn write_item(text: &mut [u8], at: usize, height: u32, width: u32) -> usize
-    requires { ⌜ at + 22 ≤ length (now text) ⌝ }
-    ensures { λ r. ⌜ Appended 22 (now (text .entry)) at (itemLine height width) (now (text .exit)) r ⌝ }
+    requires { ⌜ at + length (itemLine height width) ≤ length (now text) ⌝ }
+    ensures { λ r. ⌜ Appended (now (text .entry)) at (itemLine height width) (now (text .exit)) r ⌝ }
 {
     let next = write_field(text, at, height, b' ');
     write_field(text, next, width, b'\n')
@@ -17,8 +19,8 @@ fn write_item(text: &mut [u8], at: usize, height: u32, width: u32) -> usize
 
 // The items, two words each.
 pub fn write_items(text: &mut [u8], at: usize, items: &[u32]) -> usize
-    requires { ⌜ at + 22 * (length (now items) / 2) ≤ length (now text) ⌝ }
-    ensures { λ r. ⌜ Appended (22 * (length (now (items .entry)) / 2)) (now (text .entry)) at (wordLines (now (items .entry))) (now (text .exit)) r ⌝ }
+    requires { ⌜ at + length (wordLines (now items)) ≤ length (now text) ⌝ }
+    ensures { λ r. ⌜ Appended (now (text .entry)) at (wordLines (now (items .entry))) (now (text .exit)) r ⌝ }
 {
     let count = items.len() / 2;
     let mut next = at;
@@ -33,8 +35,8 @@ pub fn write_items(text: &mut [u8], at: usize, items: &[u32]) -> usize
 
 // The best item: height, width, area.
 pub fn write_best(text: &mut [u8], at: usize, height: u32, width: u32, area: u32) -> usize
-    requires { ⌜ at + 38 ≤ length (now text) ⌝ }
-    ensures { λ r. ⌜ Appended 38 (now (text .entry)) at (bestLine height width area) (now (text .exit)) r ⌝ }
+    requires { ⌜ at + length (bestLine height width area) ≤ length (now text) ⌝ }
+    ensures { λ r. ⌜ Appended (now (text .entry)) at (bestLine height width area) (now (text .exit)) r ⌝ }
 {
     let named = write_named(text, at, b"best ", height, b' ');
     let next = write_field(text, named, width, b' ');
@@ -43,8 +45,8 @@ pub fn write_best(text: &mut [u8], at: usize, height: u32, width: u32, area: u32
 
 // A gauge: number, size, across, up.
 fn write_gauge(text: &mut [u8], at: usize, number: u32, size: u32, across: u32, up: u32) -> usize
-    requires { ⌜ at + 58 ≤ length (now text) ⌝ }
-    ensures { λ r. ⌜ Appended 58 (now (text .entry)) at (gaugeLine number size across up) (now (text .exit)) r ⌝ }
+    requires { ⌜ at + length (gaugeLine number size across up) ≤ length (now text) ⌝ }
+    ensures { λ r. ⌜ Appended (now (text .entry)) at (gaugeLine number size across up) (now (text .exit)) r ⌝ }
 {
     let sized = write_named(text, at, b"gauge ", number, b' ');
     let placed = write_named(text, sized, b"size ", size, b' ');
@@ -54,8 +56,8 @@ fn write_gauge(text: &mut [u8], at: usize, number: u32, size: u32, across: u32, 
 
 // The gauges, five words each, of which the first three are printed.
 pub fn write_gauges(text: &mut [u8], at: usize, layout: &[u32]) -> usize
-    requires { ⌜ (length (now layout) ≤ 320) × (at + 58 * (length (now layout) / 5) ≤ length (now text)) ⌝ }
-    ensures { λ r. ⌜ Appended (58 * (length (now (layout .entry)) / 5)) (now (text .entry)) at (gaugeLines 1 (now (layout .entry))) (now (text .exit)) r ⌝ }
+    requires { ⌜ (length (now layout) ≤ 320) × (at + length (gaugeLines 1 (now layout)) ≤ length (now text)) ⌝ }
+    ensures { λ r. ⌜ Appended (now (text .entry)) at (gaugeLines 1 (now (layout .entry))) (now (text .exit)) r ⌝ }
 {
     let count = layout.len() / 5;
     let mut next = at;

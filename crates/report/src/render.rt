@@ -3,14 +3,15 @@ ghost use mathlib.Core.Path.{_≡_};
 ghost use mathlib.Core.List.{List};
 ghost use Prim.Native.Nat.{_*_, _≤_};
 ghost use lib.ListN.{length};
+ghost use Rattle.text.specs.Printing.{Printed, Counted};
 ghost use Rattle.slicing.specs.Item.{Item};
 ghost use Rattle.shapes.specs.Listing.{listWords};
 ghost use Rattle.report.specs.Text.{facesText, refusedText};
-ghost use Rattle.report.specs.Printing.{Printed, Counted, textBytes, refusedBytes};
+ghost use Rattle.report.specs.Room.{textBytes, refusedBytes};
 use crate::lines::write_best;
 use crate::lines::write_gauges;
 use crate::lines::write_items;
-use crate::put::write_named;
+use text::write_named;
 
 // The text of a face that is taken. Height and width of each item stand in `items`, and five words of each gauge in
 // `layout`. Answers the text's length.

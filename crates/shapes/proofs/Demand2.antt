@@ -1,50 +1,86 @@
--- Demand 2 of what the list call leaves, in the demand's own order: the output and the arena of every call that is taken.
--- The call's contract equates them with the definitions, and the laws of shape lists say the rest; no levels stand in the list.
-use mathlib.Core.Path.{_≡_, refl, sym, ap, subst, _∙_}
+-- Demand 2 of what the list call leaves, in the demand's own order: the output and the arena of every call that is taken, and that no level is in the list.
+-- The call's promise equates them with the definitions, and the laws of shape lists say the rest.
+use mathlib.Core.Path.{_≡_, refl, sym, ap, ap₂, subst, _∙_}
 use mathlib.Core.List.{List}
-use Prim.Native.Nat.{ℕ}
-use lib.ListN.{length}
-use Rattle.checks.specs.Answer.{Answer, taken}
-use Rattle.checks.proofs.Answers.{same-taken, next-taken, number-taken}
-use Rattle.slicing.specs.Tree.{Tree, gaugeCount, sizeCount}
+use Prim.Native.Nat.{ℕ, _*_}
+use lib.ListN.{length, take, drop}
+use lib.Seq.{take-append-seam}
+use Rattle.checks.specs.Answer.{Answer, taken, Asked}
+use Rattle.checks.proofs.Answers.{same-taken, number-taken}
+use Rattle.slicing.specs.Tree.{Tree, gauge, beside, stacked, gaugeCount, sizeCount}
+use Rattle.slicing.specs.Merge.{turn}
 use Rattle.slicing.specs.Shapes.{shapes}
+use Rattle.slicing.specs.Recorded.{Recorded, items, partRecorded}
 use Rattle.slicing.proofs.Demand2.{demand-2}
+use Rattle.slicing.proofs.PartLists.{part-gauge, part-beside, part-stacked}
+use Rattle.slicing.proofs.RecordedLaws.{items-shapes, items-turn}
 use Rattle.facefile.specs.Format.{faceOf}
 use Rattle.facefile.proofs.Taken.{face-taken}
+use Rattle.lent.specs.Lent.{Lent, writtenOver}
+use Rattle.lent.proofs.Calling.{call-taken}
 use Rattle.shapes.specs.declared.Listed.{Listed}
-use Rattle.shapes.specs.Listing.{lentChecks, listCall}
-use Rattle.shapes.specs.Demand2.{Promised, ListMeans}
+use Rattle.shapes.specs.Listing.{listAsks, listWords, listCall, ListLeaves, ListPromise}
+use Rattle.shapes.specs.Demand2.{asHeld, ListMeans, ListsAlike}
+use Rattle.shapes.proofs.WordLaws.{words-length}
 
--- A call is taken only of the face that the file means.
-pub taken-face : (file levels arena scratch output : List ℕ) (t : Tree) → listCall file levels arena scratch output ≡ taken t → faceOf file ≡ taken t
-unfolding listCall
-taken-face file levels arena scratch output t e =
-    let face = next-taken (faceOf file) _ t e in
-    let lent = next-taken (lentChecks (sizeCount (face .0)) (gaugeCount (face .0)) levels (length arena) (length scratch) (length output)) (λ ok. taken (face .0)) t (face .2) in
-    face .1 ∙ lent .2
+-- The items of the arena's list are the outer sizes.
+held-list : (t : Tree) → items (partRecorded 0 1 t) ≡ asHeld t (shapes 0 t)
+held-list (gauge s) = ap (λ (l : List Recorded). items l) (part-gauge 0 1 s) ∙ items-shapes 0 1 (gauge s)
+held-list (beside a b) = ap (λ (l : List Recorded). items l) (part-beside 0 1 a b) ∙ items-shapes 0 1 (beside a b)
+held-list (stacked a b) =
+    ap (λ (l : List Recorded). items l) (part-stacked 0 1 a b) ∙ items-turn _ ∙ ap turn (items-shapes 0 1 (stacked a b))
 
-pub list-demand-2 : (file levels arena scratch output arena' scratch' output' : List ℕ) (r : Listed) → Promised (listCall file levels arena scratch output) r levels arena scratch output arena' scratch' output' → r .number ≡ 0 → (t : Tree) × (faceOf file ≡ taken t) × ListMeans levels output r arena' output' t
-list-demand-2 file levels arena scratch output arena' scratch' output' r p zero =
-    let is = number-taken (listCall file levels arena scratch output) (sym (ap (λ (x : Listed). x .number) (p .0)) ∙ zero) in
+-- A call that answers 0 is taken of the face that its file means.
+module _ (face : Answer Tree) (levels : List ℕ) (old : Lent) (r : Listed) (new : Lent) where
+  abbrev asks : Tree → Asked
+  asks t = listAsks (sizeCount t) (gaugeCount t) levels (length (old .arena)) (length (old .scratch)) (length (old .output))
+
+  pub promise-taken : ListPromise face levels old r new → r .number ≡ 0 → (t : Tree) × (face ≡ taken t) × ListLeaves (taken t) levels old r new
+  unfolding listCall
+  promise-taken p zero =
+      let is = number-taken (listCall face levels old) (sym (ap (λ (x : Listed). x .number) (p .answered)) ∙ zero) in
+      (is .0, call-taken face asks (is .0) (is .1) .0, subst (λ (a : Answer Tree). ListLeaves a levels old r new) (is .1) p)
+
+pub list-demand-2 : (file levels : List ℕ) (old : Lent) (r : Listed) (new : Lent) → ListPromise (faceOf file) levels old r new → r .number ≡ 0 → (t : Tree) × (faceOf file ≡ taken t) × ListMeans levels old r new t
+list-demand-2 file levels old r new p zero =
+    let is = promise-taken (faceOf file) levels old r new p zero in
     let t = is .0 in
-    let face = taken-face file levels arena scratch output t (is .1) in
-    let all = subst (λ (a : Answer Tree). Promised a r levels arena scratch output arena' scratch' output') (is .1) p in
-    let means = demand-2 0 t (face-taken file t face .good) in (
+    let leaves = is .2 in
+    let means = demand-2 0 t (face-taken file t (is .1) .good) in (
       t,
-      face,
+      is .1,
       record {
         list = shapes 0 t;
         merged = refl;
-        written = all .1 .0;
-        counted = ap (λ (x : Listed). x .count) (all .0);
+        written = leaves .output;
+        counted = ap (λ (x : Listed). x .count) (leaves .answered);
         outer = means .outer;
         short = means .short;
-        lazy = all .1 .1 .0;
+        held = partRecorded 0 1 t;
+        holds = leaves .arena .holds;
+        same-list = held-list t;
+        root = leaves .arena;
       },
     )
 
--- "under every table of levels from 1 to 8": two calls on one file that are both taken, whatever their levels and buffers, write the same list.
-pub levels-alike : (file levels arena scratch output levels₂ arena₂ scratch₂ output₂ : List ℕ) (t u : Tree) → listCall file levels arena scratch output ≡ taken t → listCall file levels₂ arena₂ scratch₂ output₂ ≡ taken u → shapes 0 t ≡ shapes 0 u
-levels-alike file levels arena scratch output levels₂ arena₂ scratch₂ output₂ t u e f =
-    ap (shapes 0)
-    (same-taken t u (sym (taken-face file levels arena scratch output t e) ∙ taken-face file levels₂ arena₂ scratch₂ output₂ u f))
+-- The words that a taken call writes, from the output's start.
+words-at-start : (t : Tree) (levels : List ℕ) (old : Lent) (r : Listed) (new : Lent) → ListLeaves (taken t) levels old r new → take (2 * r .count) (new .output) ≡ listWords (shapes 0 t)
+unfolding writtenOver
+words-at-start t levels old r new leaves =
+    let words = listWords (shapes 0 t) in
+    let count : 2 * r .count ≡ length words = ap (λ (x : Listed). 2 * x .count) (leaves .answered) ∙ sym (words-length (shapes 0 t)) in
+    ap₂ take count (leaves .output) ∙ take-append-seam words (drop (length words) (old .output))
+
+-- "under every table of levels from 1 to 8".
+pub levels-alike : (face : Answer Tree) (levels levels₂ : List ℕ) (old old₂ : Lent) (r r₂ : Listed) (new new₂ : Lent) → ListPromise face levels old r new → ListPromise face levels₂ old₂ r₂ new₂ → r .number ≡ 0 → r₂ .number ≡ 0 → ListsAlike r new r₂ new₂
+levels-alike face levels levels₂ old old₂ r r₂ new new₂ p q zero zero₂ =
+    let one = promise-taken face levels old r new p zero in
+    let two = promise-taken face levels₂ old₂ r₂ new₂ q zero₂ in
+    let t = one .0 in
+    let same : two .0 ≡ t = same-taken (two .0) t (sym (two .1) ∙ one .1) in
+    let other : ListLeaves (taken t) levels₂ old₂ r₂ new₂ = subst (λ (u : Tree). ListLeaves (taken u) levels₂ old₂ r₂ new₂) same (two .2) in
+    record {
+      same-count = ap (λ (x : Listed). x .count) (one .2 .answered ∙ sym (other .answered));
+      same-output = words-at-start t levels old r new (one .2) ∙ sym (words-at-start t levels₂ old₂ r₂ new₂ other);
+      same-arena = one .2 .arena .holds ∙ sym (other .arena .holds);
+    }

@@ -13,7 +13,8 @@ use Rattle.arena.specs.Lazy.{held}
 use Rattle.arena.specs.Chain.{pUnder, after, trues}
 use Rattle.arena.specs.Turning.{Suffixes, Summable, Enterable, TrueP, Renewed}
 use Rattle.merging.specs.Carried.{carried}
-use Rattle.shapes.specs.Listing.{listWords, writtenOver}
+use Rattle.lent.specs.Lent.{writtenOver}
+use Rattle.shapes.specs.Listing.{listWords}
 use Rattle.shapes.specs.Writing.{Listable, itemAt}
 use Rattle.shapes.proofs.ListWalk.{Walk, walk-start, walk-summable, walk-know, walk-more, walk-done}
 use Rattle.shapes.proofs.WordLaws.{words-length, over-sets, sets-more, length-item}

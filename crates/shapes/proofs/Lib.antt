@@ -4,6 +4,5 @@ pub mod ItemLaws
 pub mod Heights
 pub mod Widths
 pub mod RootLaws
-pub mod LentLaws
 pub mod ListCall
 pub mod Demand2

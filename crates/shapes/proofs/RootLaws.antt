@@ -25,7 +25,8 @@ use Rattle.maxplus.proofs.Holds.{holds-lazy}
 use Rattle.facefile.specs.Kinds.{kindOf}
 use Rattle.parts.specs.Building.{Whole}
 use Rattle.parts.proofs.PartLaws.{part-length}
-use Rattle.shapes.specs.Listing.{listWords, writtenOver, RootList}
+use Rattle.lent.specs.Lent.{writtenOver}
+use Rattle.shapes.specs.Listing.{listWords, RootList}
 use Rattle.shapes.specs.Writing.{Listable}
 use Rattle.shapes.specs.Taken.{Writable, WroteFace, Wrote}
 

@@ -11,7 +11,8 @@ use lib.Seq.{sets, sets-eq}
 use Rattle.slicing.specs.Item.{Item, height, width}
 use Rattle.slicing.specs.Merge.{swap, turn}
 use Rattle.slicing.proofs.TurnLaws.{turn-cons}
-use Rattle.shapes.specs.Listing.{listWords, writtenOver}
+use Rattle.lent.specs.Lent.{writtenOver}
+use Rattle.shapes.specs.Listing.{listWords}
 use Rattle.shapes.specs.Writing.{itemAt}
 
 pub words-length : (l : List Item) → length (listWords l) ≡ 2 * length l

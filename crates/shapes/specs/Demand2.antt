@@ -1,31 +1,46 @@
 -- Demand 2 of what the list call leaves, in the demand's own order.
 use mathlib.Core.Path.{_≡_}
 use mathlib.Core.List.{List}
-use Prim.Native.Nat.{ℕ, _+_, _≤_}
-use lib.ListN.{length}
-use Rattle.checks.specs.Answer.{Answer}
+use Prim.Native.Nat.{ℕ, _+_, _*_, _≤_}
+use lib.ListN.{length, take}
+use Rattle.checks.specs.Answer.{taken}
 use Rattle.slicing.specs.Item.{Item}
-use Rattle.slicing.specs.Tree.{Tree, gaugeCount, sizeCount}
+use Rattle.slicing.specs.Tree.{Tree, gauge, beside, stacked, gaugeCount, sizeCount}
+use Rattle.slicing.specs.Merge.{turn}
 use Rattle.slicing.specs.Shapes.{shapes}
+use Rattle.slicing.specs.Recorded.{Recorded, items}
 use Rattle.slicing.specs.Demand2.{OuterSizes}
+use Rattle.arena.specs.Lazy.{lazyList}
+use Rattle.lent.specs.Lent.{Lent, writtenOver}
 use Rattle.shapes.specs.declared.Listed.{Listed}
-use Rattle.shapes.specs.Listing.{listed, listWords, writtenOver, listOutput, RootList, ListArena, ListScratch}
+use Rattle.shapes.specs.Listing.{listWords, RootList}
 
--- The four promises of the list call's contract together: the fields, the output, the arena and the scratch.
-abbrev pub Promised : Answer Tree → Listed → (levels arena scratch output arena' scratch' output' : List ℕ) → Type 0
-Promised a r levels arena scratch output arena' scratch' output' =
-    (r ≡ listed a) × ((output' ≡ listOutput a output) × (ListArena a levels arena arena' × ListScratch a scratch scratch'))
+-- The outer sizes of a face as they run in the arena: turned where the root is stacked.
+abbrev pub asHeld : Tree → List Item → List Item
+asHeld (gauge s) l = l
+asHeld (beside a b) l = l
+asHeld (stacked a b) l = turn l
 
 -- What a taken call leaves of the face t.
-pub record ListMeans (levels output : List ℕ) (r : Listed) (arena' output' : List ℕ) (t : Tree) : Type 0 where
+pub record ListMeans (levels : List ℕ) (old : Lent) (r : Listed) (new : Lent) (t : Tree) : Type 0 where
   -- "The list of outer sizes is the maxplus merge of Stockmeyer, as Chen and Zhou state it, carried up the tree": this list stands in the output, and the count is its length.
   pub list : List Item
   pub merged : list ≡ shapes 0 t
-  pub written : output' ≡ writtenOver (listWords list) output
+  pub written : new .output ≡ writtenOver (listWords list) (old .output)
   pub counted : r .count ≡ length list
   -- "Each item comes from one choice of size per gauge. Each choice is met by an item no taller and no wider. Heights fall and widths rise strictly down the list."
   pub outer : OuterSizes 0 t list
   -- "With n sizes and g gauges it has at most n - g + 1 items."
   pub short : length list + gaugeCount t ≤ sizeCount t + 1
-  -- "The lazy lists give that same list": it is the arena's, with each item's record, turned where the root is stacked.
-  pub lazy : RootList levels arena' t
+  -- "The lazy lists give that same list": the arena holds a lazy list, whose items are the list's.
+  pub held : List Recorded
+  pub holds : lazyList (new .arena) ≡ taken held
+  pub same-list : items held ≡ asHeld t list
+  -- With each item's record and its lent level.
+  pub root : RootList levels (new .arena) t
+
+-- "under every table of levels from 1 to 8": what two taken calls on one face leave is alike, whatever their levels and buffers.
+pub record ListsAlike (r : Listed) (new : Lent) (r₂ : Listed) (new₂ : Lent) : Type 0 where
+  pub same-count : r .count ≡ r₂ .count
+  pub same-output : take (2 * r .count) (new .output) ≡ take (2 * r₂ .count) (new₂ .output)
+  pub same-arena : lazyList (new .arena) ≡ lazyList (new₂ .arena)

@@ -8,7 +8,8 @@ use Rattle.slicing.specs.Tree.{Tree, gaugeCount, sizeCount}
 use Rattle.slicing.specs.Shapes.{shapes}
 use Rattle.facefile.specs.Format.{faceOf}
 use Rattle.parts.specs.Building.{Buildable}
-use Rattle.shapes.specs.Listing.{listWords, writtenOver, RootList}
+use Rattle.lent.specs.Lent.{writtenOver}
+use Rattle.shapes.specs.Listing.{listWords, RootList}
 
 pub record Writable (file levels a out : List ℕ) : Type 0 where
   pub ready : Buildable file levels a

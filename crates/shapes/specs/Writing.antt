@@ -2,17 +2,18 @@
 use mathlib.Core.List.{List}
 use Prim.Native.Nat.{ℕ, _+_, _*_, _≤_}
 use lib.ListN.{length, set}
+use Rattle.checks.specs.Limits.{mostSizes}
 use Rattle.arena.specs.Chain.{Linked}
 
 -- The records rs are the list of the head h, at most 512 of them.
 pub record Countable (a : List ℕ) (h : ℕ) (rs : List ℕ) : Type 0 where
   pub linked : Linked a h rs
-  pub few : length rs ≤ 512
+  pub few : length rs ≤ mostSizes
 
 -- The same, and there is room for their items.
 pub record Listable (a : List ℕ) (h : ℕ) (rs out : List ℕ) : Type 0 where
   pub linked : Linked a h rs
-  pub few : length rs ≤ 512
+  pub few : length rs ≤ mostSizes
   pub room : 2 * length rs ≤ length out
 
 -- The buffer with an item's two words at a place.

@@ -2,7 +2,6 @@
 mod listing;
 mod write;
 
-pub use listing::levels_in_range;
 pub use listing::list;
 pub use listing::write_list;
 

@@ -1,47 +1,18 @@
 // The list call.
 ghost use mathlib.Core.Path.{_≡_};
-ghost use mathlib.Core.Bool.{_&&_};
 ghost use Prim.Native.Nat.{_≤_};
-ghost use lib.Dec.{leb};
 ghost use Rattle.checks.specs.Answer.{number};
-ghost use Rattle.shapes.specs.Listing.{levelsInRange, lentChecks, listCall, listed, listOutput, ListArena, ListScratch};
+ghost use Rattle.facefile.specs.Format.{faceOf};
+ghost use Rattle.lent.specs.Lent.{lent};
+ghost use Rattle.shapes.specs.Listing.{listAsks, ListPromise};
 ghost use Rattle.shapes.specs.Taken.{Writable, Wrote};
 use crate::Listed;
 use crate::write::write_by_height;
 use crate::write::write_by_width;
 use parts::build::build;
 
-// The words that the arena and the scratch need.
-const WORDS: usize = 16_384;
-
-// Whether a level is 1 to 8, and those before it are in range.
-fn also_in_range(before: bool, level: u8) -> bool
-    ensures { λ r. ⌜ r ≡ (before && (leb 1 level && leb level 8)) ⌝ }
-{
-    if level < 1 {
-        return false;
-    }
-    if 8 < level {
-        return false;
-    }
-    before
-}
-
-// Whether each level is 1 to 8. With no way out before the last level, the machine compares many at once.
-pub fn levels_in_range(levels: &[u8]) -> bool
-    ensures { λ r. ⌜ r ≡ levelsInRange (now (levels .entry)) ⌝ }
-{
-    let mut fine = true;
-    let mut i = 0;
-    while i < levels.len() {
-        fine = also_in_range(fine, levels[i]);
-        i += 1;
-    }
-    fine
-}
-
 // Checks 14 to 18, of the levels and of the lengths of the lent buffers: the number of the first that fails, or 0.
-fn lent_number(
+fn asked_number(
     n: usize,
     g: usize,
     levels: &[u8],
@@ -50,24 +21,12 @@ fn lent_number(
     output: usize,
 ) -> u32
     requires { ⌜ (g ≤ n) × (n ≤ 512) ⌝ }
-    ensures { λ r. ⌜ r ≡ number (lentChecks n g (now (levels .entry)) arena scratch output) ⌝ }
+    ensures { λ r. ⌜ r ≡ number (listAsks n g (now (levels .entry)) arena scratch output) ⌝ }
 {
-    if levels.len() != n {
-        return checks::LEVEL_COUNT;
-    }
-    if !levels_in_range(levels) {
-        return checks::LEVEL_RANGE;
-    }
-    if arena < WORDS {
-        return checks::BUFFERS;
-    }
-    if scratch < WORDS {
-        return checks::BUFFERS;
-    }
-    if output < 2 * (n - g + 1) {
-        return checks::OUTPUT;
-    }
-    checks::TAKEN
+    let buffers = lent::buffers_number(arena, scratch);
+    let room = lent::output_number(2 * (n - g + 1), output);
+    let words = checks::first_no(buffers, room);
+    checks::first_no(lent::levels_number(n, levels), words)
 }
 
 // The list of a face that is taken, in the arena and in the output. Answers the item count. It is for callers that have
@@ -92,16 +51,13 @@ pub fn list(
     scratch: &mut [u32],
     output: &mut [u32],
 ) -> Listed
-    ensures { λ r. ⌜ r ≡ listed (listCall (now (file .entry)) (now (levels .entry)) (now (arena .entry)) (now (scratch .entry)) (now (output .entry))) ⌝ }
-    ensures { λ _. ⌜ now (output .exit) ≡ listOutput (listCall (now (file .entry)) (now (levels .entry)) (now (arena .entry)) (now (scratch .entry)) (now (output .entry))) (now (output .entry)) ⌝ }
-    ensures { λ _. ⌜ ListArena (listCall (now (file .entry)) (now (levels .entry)) (now (arena .entry)) (now (scratch .entry)) (now (output .entry))) (now (levels .entry)) (now (arena .entry)) (now (arena .exit)) ⌝ }
-    ensures { λ _. ⌜ ListScratch (listCall (now (file .entry)) (now (levels .entry)) (now (arena .entry)) (now (scratch .entry)) (now (output .entry))) (now (scratch .entry)) (now (scratch .exit)) ⌝ }
+    ensures { λ r. ⌜ ListPromise (faceOf (now (file .entry))) (now (levels .entry)) (lent (now (arena .entry)) (now (scratch .entry)) (now (output .entry))) r (lent (now (arena .exit)) (now (scratch .exit)) (now (output .exit))) ⌝ }
 {
     let face = facefile::read(file);
     if face.number != checks::TAKEN {
         return refused(face.number);
     }
-    let number = lent_number(
+    let number = asked_number(
         face.sizes,
         face.gauges,
         levels,

@@ -4,9 +4,8 @@ use mathlib.Core.Path.{_≡_, refl, sym, ap, subst, _∙_}
 use mathlib.Core.List.{List, [], _∷_}
 use Prim.Native.Nat.{ℕ, _+_, _*_, _-_, _≤_, _<_}
 use native.Mathlib.Omega.{arith}
-use lib.ListN.{length, getD, take, drop, length-append}
+use lib.ListN.{length, length-append}
 use Rattle.checks.specs.Answer.{taken}
-use Rattle.checks.proofs.Answers.{same-taken}
 use Rattle.slicing.specs.Item.{Item}
 use Rattle.slicing.specs.Tree.{Tree, gauge, beside, stacked, gaugesOf, gaugeCount, sizeCount}
 use Rattle.slicing.specs.Good.{Good}
@@ -14,13 +13,17 @@ use Rattle.slicing.specs.Shapes.{shapes}
 use Rattle.slicing.proofs.Counts.{gauges-joined, sizes-joined}
 use Rattle.slicing.proofs.Depths.{depth-few}
 use Rattle.slicing.proofs.Stored.{storedItems}
-use Rattle.facefile.specs.Format.{State, start, faceOf}
+use Rattle.facefile.specs.declared.walk.GaugeEntry.{GaugeEntry}
+use Rattle.facefile.specs.declared.walk.Entry.{Entry as FileEntry}
+use Rattle.facefile.specs.declared.walk.Entry.the-variants.{Gauge, Join}
+use Rattle.facefile.specs.Format.{faceOf}
+use Rattle.facefile.specs.Kinds.{Cut, cut-beside, cut-stacked}
+use Rattle.facefile.specs.Sizes.{sizesIn, Sized}
 use Rattle.facefile.specs.Tracking.{flat}
-use Rattle.facefile.specs.Sizes.{sizesIn}
+use Rattle.facefile.specs.Walk.{firstEntry, Walk, sizeBytesOf, GaugeAt, JoinAt, Finds}
 use Rattle.facefile.proofs.SizesIn.{in-length}
-use Rattle.facefile.proofs.Took.{Cut, cut-beside, cut-stacked}
-use Rattle.facefile.proofs.Walk.{Walk, walk-start, walk-end, GaugeTurn, gauge-turn, JoinTurn, join-turn}
-use Rattle.facefile.proofs.WalkTurns.{turn-inside, turn-count, turn-walk, turn-bytes, turn-sizes, turn-many, turn-good, turn-gauges}
+use Rattle.facefile.proofs.WalkSteps.{walk-start, walk-end, found-gauge, found-join}
+use Rattle.facefile.proofs.WalkStack.{walk-good, walk-gauges, walk-face, join-good, join-gauges}
 use Rattle.stored.specs.Packed.{ownShapes}
 use Rattle.stored.specs.Store.{Entry, Stored}
 use Rattle.stored.specs.Filling.{Between, Lies, Added, Rows, Fillable, Filled}
@@ -30,17 +33,17 @@ use Rattle.stored.proofs.StoredRows.{stored-frame, lies-frame, rows-fra
 
 pub record Filling (file s₀ s : List ℕ) (at part to : ℕ) : Type 0 where
   pub ready : Fillable file s₀
-  pub state : State
-  pub walk : Walk file (ready .tree) at state
+  pub stack : List Tree
+  pub walk : Walk file (ready .tree) at stack
   pub length-kept : length s ≡ length s₀
-  pub rows : Rows s to (state .stack) part
-  pub used-is : to ≡ 508 + used (state .stack)
+  pub rows : Rows s to stack part
+  pub used-is : to ≡ 508 + used stack
 
-pub filling-start : (file s : List ℕ) → Fillable file s → Filling file s s 7 0 508
+pub filling-start : (file s : List ℕ) → Fillable file s → Filling file s s firstEntry 0 508
 filling-start file s ready =
     record {
       ready = ready;
-      state = start file;
+      stack = [];
       walk = walk-start file (ready .tree) (ready .face);
       length-kept = refl;
       rows = refl;
@@ -83,67 +86,62 @@ module _ (file s₀ s : List ℕ) (at part to : ℕ) (k : Filling file s₀ s at
   place-few : (508 ≤ to) × (to ≤ 15_644)
   place-few =
       let u = k .used-is in
-      let c = k .walk .sound .counted in
-      let f = k .walk .sound .few in
-      let few = used-few (k .state .stack) (k .walk .sound .good) (omega arith) in
+      let few = used-few (k .stack) (walk-good file face at (k .stack) (k .walk)) (walk-gauges file face at (k .stack) (k .walk)) in
       (omega arith, omega arith)
 
-  module _ (more : at < length file) where
-    module _ (e : getD file at 0 ≡ 1) where
-      turn : GaugeTurn file face at (k .state)
-      turn = gauge-turn file face at (k .state) (k .walk) more e
+  module _ (r : FileEntry) (found : Finds file at r) where
+    module _ (g : GaugeEntry) (e : r ≡ Gauge g) where
+      abbrev here : GaugeAt file face at (k .stack) g
+      here = found-gauge file face at (k .stack) (k .walk) r found g e
 
-      pub gauge-inside : at + 2 + 4 * getD file (at + 1) 0 ≤ length file
-      gauge-inside = turn-inside file face at (k .state) turn
+      abbrev sizes : List Item
+      sizes = sizesIn (g .count) (sizeBytesOf file g)
 
-      module _ (n : ℕ) (is-count : n ≡ getD file (at + 1) 0) where
-        abbrev bytes : List ℕ
-        bytes = take (at + 2 + 4 * n - (at + 2)) (drop (at + 2) file)
+      pub gauge-part : part + 1 < 128
+      gauge-part =
+          let total = rows-total s to (k .stack) part (k .rows) in
+          let few = walk-gauges file face (g .next) (gauge sizes ∷ k .stack) (here .walk) in
+          let one-more = length-append (flat gaugesOf (k .stack)) (sizes ∷ []) in
+          omega arith
 
-        part-few : part < 127
-        part-few =
-            let total = rows-total s to (k .state .stack) part (k .rows) in
-            let new = turn .walk .sound .counted in
-            let few = turn .walk .sound .few in
-            let stack = ap (λ (x : List Tree). length (flat gaugesOf x)) (turn .stack) ∙ length-append (flat gaugesOf (k .state .stack)) (turn .sizes ∷ []) in
-            omega arith
+      pub gauge-room : Room s part to (g .count)
+      gauge-room =
+          let p = place-few in
+          let few = here .few in
+          record { long = long; part = (let fits = gauge-part in omega arith); from = p .0; items = omega arith }
 
-        few-sizes : n ≤ 8
-        few-sizes = let most = turn .most in let c = turn-count file face at (k .state) turn n is-count in omega arith
+      pub gauge-fits : to + g .count < 65_536
+      gauge-fits = let p = place-few in let few = here .few in omega arith
 
-        pub gauge-room : Room s part to n × (length bytes ≡ 4 * n) × (n ≤ 8)
-        gauge-room =
-            let p = place-few in
-            let few = few-sizes in
-            (record { long = long; part = part-few; from = p .0; items = omega arith }, turn-bytes file face at (k .state) turn n is-count, few)
+      pub gauge-sized : Sized (g .count) (sizeBytesOf file g)
+      gauge-sized = here .sized
 
-        pub gauge-fits : to + n < 65_536
-        gauge-fits = let p = place-few in let few = few-sizes in omega arith
+      pub gauge-few : g .count ≤ 8
+      gauge-few = here .few
 
-        pub filling-gauge : (z : List ℕ) → Added s z part to 1 1 (sizesIn n bytes) → Filling file s₀ z (at + 2 + 4 * n) (part + 1) (to + n)
-        filling-gauge z d =
-            let v = turn .sizes in
-            let p = place-few in
-            let back : part ≡ part + 1 - 1 = omega arith in
-            let list : sizesIn n bytes ≡ ownShapes (gauge v) = sym (turn-sizes file face at (k .state) turn n is-count) ∙ sym (own-gauge v) in
-            let long-list = ap length list ∙ refl in
-            let many = in-length n bytes in
-            let here : Stored z (part + 1 - 1) (gauge v) = subst (λ (x : ℕ). Entry z x 0x01 1 (ownShapes (gauge v))) back (subst (λ (l : List Item). Entry z part 0x01 1 l) list (d .entry)) in
-            let lies : Lies z (to + n) (part + 1 - 1) (gauge v) = subst (λ (x : ℕ). Between z (to + n) x (gauge v)) back (let f = d .from-is in (omega arith, omega arith)) in
-            let below : Rows z (to + n) (k .state .stack) part = rows-frame s z part to (to + n) (d .length-kept) (d .table-kept) (d .lists-kept) (omega arith) (k .state .stack) part (omega arith) (k .rows) in
-            let all : Rows z (to + n) (gauge v ∷ k .state .stack) (part + 1) = (part, omega arith, here, lies, below) in
-            record {
-              ready = k .ready;
-              state = turn .next;
-              walk = turn-walk file face at (k .state) turn n is-count;
-              length-kept = d .length-kept ∙ k .length-kept;
-              rows = subst (λ (x : List Tree). Rows z (to + n) x (part + 1)) (sym (turn .stack)) all;
-              used-is = let u = k .used-is in let stack = ap used (turn .stack) in let m = turn-many file face at (k .state) turn n is-count in omega arith;
-            }
+      pub filling-gauge : (z : List ℕ) → Added s z part to 1 1 sizes → Filling file s₀ z (g .next) (part + 1) (to + g .count)
+      filling-gauge z d =
+          let n = g .count in
+          let p = place-few in
+          let back : part ≡ part + 1 - 1 = omega arith in
+          let list : sizes ≡ ownShapes (gauge sizes) = sym (own-gauge sizes) in
+          let long-list = ap length list in
+          let many = in-length n (sizeBytesOf file g) in
+          let here-stored : Stored z (part + 1 - 1) (gauge sizes) = subst (λ (x : ℕ). Entry z x 0x01 1 (ownShapes (gauge sizes))) back (subst (λ (l : List Item). Entry z part 0x01 1 l) list (d .entry)) in
+          let lies : Lies z (to + n) (part + 1 - 1) (gauge sizes) = subst (λ (x : ℕ). Between z (to + n) x (gauge sizes)) back (let f = d .from-is in (omega arith, omega arith)) in
+          let below : Rows z (to + n) (k .stack) part = rows-frame s z part to (to + n) (d .length-kept) (d .table-kept) (d .lists-kept) (omega arith) (k .stack) part (omega arith) (k .rows) in
+          record {
+            ready = k .ready;
+            stack = gauge sizes ∷ k .stack;
+            walk = here .walk;
+            length-kept = d .length-kept ∙ k .length-kept;
+            rows = (part, omega arith, here-stored, lies, below);
+            used-is = let u = k .used-is in omega arith;
+          }
 
-    module _ (e : getD file at 0 ≡ 1 → ⊥) where
-      joining : JoinTurn file face at (k .state)
-      joining = join-turn file face at (k .state) (k .walk) more e
+    module _ (kind behind : ℕ) (e : r ≡ Join kind behind) where
+      abbrev joining : JoinAt file face at (k .stack) kind behind
+      joining = found-join file face at (k .stack) (k .walk) r found kind behind e
 
       abbrev older : Tree
       older = joining .older
@@ -152,10 +150,10 @@ module _ (file s₀ s : List ℕ) (at part to : ℕ) (k : Filling file s₀ s at
       newer = joining .newer
 
       abbrev rest : List Tree
-      rest = joining .parts
+      rest = joining .rest
 
       stand : Rows s to (newer ∷ older ∷ rest) part
-      stand = subst (λ (x : List Tree). Rows s to x part) (joining .stack-before) (k .rows)
+      stand = subst (λ (x : List Tree). Rows s to x part) (joining .two) (k .rows)
 
       abbrev mid : ℕ
       mid = stand .0
@@ -164,10 +162,10 @@ module _ (file s₀ s : List ℕ) (at part to : ℕ) (k : Filling file s₀ s at
       lo = stand .4 .0
 
       good : Good newer × Good older
-      good = turn-good file face at (k .state) (k .walk) joining
+      good = join-good file face at (k .stack) (k .walk) kind behind joining
 
       gauges-few : gaugeCount older + gaugeCount newer ≤ 64
-      gauges-few = turn-gauges file face at (k .state) (k .walk) joining
+      gauges-few = join-gauges file face at (k .stack) (k .walk) kind behind joining
 
       numbers : (mid - 1 ≡ part - 2 * gaugeCount newer) × (1 ≤ part) × (2 * gaugeCount newer ≤ part) × (part < 127)
       numbers =
@@ -176,101 +174,106 @@ module _ (file s₀ s : List ℕ) (at part to : ℕ) (k : Filling file s₀ s at
           let x = depth-few older in
           let y = depth-few newer in
           let few = gauges-few in
-          let total = rows-total s to (k .state .stack) part (k .rows) in
-          let c = k .walk .sound .counted in
-          let f = k .walk .sound .few in
-          let two = ap length (joining .stack-before) in
+          let total = rows-total s to (k .stack) part (k .rows) in
+          let all = walk-gauges file face at (k .stack) (k .walk) in
+          let two = ap length (joining .two) in
           (omega arith, omega arith, omega arith, omega arith)
 
       older-stored : Stored s (part - 2 * gaugeCount newer) older × Lies s to (part - 2 * gaugeCount newer) older
       older-stored =
           subst (λ (x : ℕ). Stored s x older × Lies s to x older) (numbers .0) (stand .4 .2, stand .4 .3)
 
-      module _ (kind : ℕ) (kind-is : kind ≡ getD file at 0) where
-        cut : Cut kind (joining .cut)
-        cut = rw kind-is (joining .kind)
+      abbrev cut : Cut kind (joining .cut)
+      cut = joining .is-cut
 
-        join-room : JoinRoom s part to kind (joining .cut) older newer
-        join-room =
+      join-room : JoinRoom s part to kind (joining .cut) older newer
+      join-room =
+          let p = place-few in
+          let n = numbers in
+          let few = gauges-few in
+          let u = own-few older (good .1) in
+          let v = own-few newer (good .0) in
+          record {
+            is-cut = cut;
+            room = record { long = long; part = n .3; from = p .0; items = omega arith };
+            newer-before = n .1;
+            older-before = n .2;
+            older = entry-of s (part - 2 * gaugeCount newer) older (older-stored .0);
+            newer = entry-of s (part - 1) newer (stand .2);
+            older-between = lies-between s to (part - 2 * gaugeCount newer) older (older-stored .1);
+            newer-between = lies-between s to (part - 1) newer (stand .3);
+            older-good = good .1;
+            newer-good = good .0;
+            few = few;
+          }
+
+      pub join-part : part + 1 < 128
+      join-part = let n = numbers in omega arith
+
+      pub join-ready : (c : Tree → Tree → Tree) × (a : Tree) × (b : Tree) × JoinRoom s part to kind c a b
+      join-ready = (joining .cut, older, newer, join-room)
+
+      abbrev Joined : List ℕ → ℕ → Type 0
+      Joined z n =
+          (c : Tree → Tree → Tree) (a b : Tree) → JoinRoom s part to kind c a b → Added s z part to kind (gaugeCount a + gaugeCount b) (ownShapes (c a b)) × (n ≡ length (ownShapes (c a b)))
+
+      module _ (z : List ℕ) (n : ℕ) (joined : Joined z n) where
+        abbrev added : Added s z part to kind (gaugeCount older + gaugeCount newer) (ownShapes (joining .cut older newer))
+        added = joined (joining .cut) older newer join-room .0
+
+        item-count : n ≡ length (ownShapes (joining .cut older newer))
+        item-count = joined (joining .cut) older newer join-room .1
+
+        pub join-fits : to + n < 65_536
+        join-fits =
             let p = place-few in
-            let n = numbers in
-            let few = gauges-few in
-            let u = own-few older (good .1) in
-            let v = own-few newer (good .0) in
+            let m = item-count in
+            let short = cut-short kind (joining .cut) cut older newer (good .1) (good .0) gauges-few in
+            omega arith
+
+        new-stored : Stored z part (joining .cut older newer)
+        new-stored =
+            cut-stored kind (joining .cut) cut older newer z part (added .entry) (let w = numbers .2 in let second = stand .4 .1 in let first = stand .1 in omega arith)
+            (stored-frame s z part to (to + n) (added .length-kept) (added .table-kept) (added .lists-kept) (omega arith) newer (part - 1) (let w = numbers .1 in omega arith) (stand .2) (stand .3))
+            (stored-frame s z part to (to + n) (added .length-kept) (added .table-kept) (added .lists-kept) (omega arith) older (part - 2 * gaugeCount newer) (let w = numbers .2 in let y = depth-few newer in omega arith) (older-stored .0) (older-stored .1))
+
+        new-lies : Lies z (to + n) part (joining .cut older newer)
+        new-lies =
+            cut-lies kind (joining .cut) cut older newer z (to + n) part
+            (let f = added .from-is in let p = place-few in let m = item-count in (omega arith, omega arith))
+            (lies-frame s z part to (to + n) (added .length-kept) (added .table-kept) (added .lists-kept) (omega arith) newer (part - 1) (let w = numbers .1 in omega arith) (stand .3))
+            (lies-frame s z part to (to + n) (added .length-kept) (added .table-kept) (added .lists-kept) (omega arith) older (part - 2 * gaugeCount newer) (let w = numbers .2 in let y = depth-few newer in omega arith) (older-stored .1))
+
+        pub filling-join : Filling file s₀ z behind (part + 1) (to + n)
+        filling-join =
+            let back : part ≡ part + 1 - 1 = omega arith in
+            let first = stand .1 in
+            let second = stand .4 .1 in
+            let g = cut-gauges kind (joining .cut) cut older newer in
+            let below : Rows z (to + n) rest lo = rows-frame s z part to (to + n) (added .length-kept) (added .table-kept) (added .lists-kept) (omega arith) rest lo (let x = depth-few older in let y = depth-few newer in omega arith) (stand .4 .4) in
             record {
-              is-cut = cut;
-              room = record { long = long; part = n .3; from = p .0; items = omega arith };
-              newer-before = n .1;
-              older-before = n .2;
-              older = entry-of s (part - 2 * gaugeCount newer) older (older-stored .0);
-              newer = entry-of s (part - 1) newer (stand .2);
-              older-between = lies-between s to (part - 2 * gaugeCount newer) older (older-stored .1);
-              newer-between = lies-between s to (part - 1) newer (stand .3);
-              older-good = good .1;
-              newer-good = good .0;
-              few = few;
+              ready = k .ready;
+              stack = joining .cut older newer ∷ rest;
+              walk = joining .walk;
+              length-kept = added .length-kept ∙ k .length-kept;
+              rows = (
+                lo,
+                omega arith,
+                subst (λ (x : ℕ). Stored z x (joining .cut older newer)) back new-stored,
+                subst (λ (x : ℕ). Lies z (to + n) x (joining .cut older newer)) back new-lies,
+                below,
+              );
+              used-is =
+                  let u = k .used-is in
+                  let before = ap used (joining .two) in
+                  let m = item-count in
+                  let w = cut-used kind (joining .cut) cut older newer in
+                  omega arith;
             }
 
-        pub join-ready : (c : Tree → Tree → Tree) × (a : Tree) × (b : Tree) × JoinRoom s part to kind c a b
-        join-ready = (joining .cut, older, newer, join-room)
-
-        abbrev Joined : List ℕ → ℕ → Type 0
-        Joined z n =
-            (c : Tree → Tree → Tree) (a b : Tree) → JoinRoom s part to kind c a b → Added s z part to kind (gaugeCount a + gaugeCount b) (ownShapes (c a b)) × (n ≡ length (ownShapes (c a b)))
-
-        module _ (z : List ℕ) (n : ℕ) (joined : Joined z n) where
-          abbrev added : Added s z part to kind (gaugeCount older + gaugeCount newer) (ownShapes (joining .cut older newer))
-          added = joined (joining .cut) older newer join-room .0
-
-          item-count : n ≡ length (ownShapes (joining .cut older newer))
-          item-count = joined (joining .cut) older newer join-room .1
-
-          pub join-fits : (n ≤ 512) × (to + n < 65_536)
-          join-fits =
-              let p = place-few in
-              let m = item-count in
-              let short = cut-short kind (joining .cut) cut older newer (good .1) (good .0) gauges-few in
-              (omega arith, omega arith)
-
-          new-stored : Stored z part (joining .cut older newer)
-          new-stored =
-              cut-stored kind (joining .cut) cut older newer z part (added .entry) (let w = numbers .2 in let second = stand .4 .1 in let first = stand .1 in omega arith)
-              (stored-frame s z part to (to + n) (added .length-kept) (added .table-kept) (added .lists-kept) (omega arith) newer (part - 1) (let w = numbers .1 in omega arith) (stand .2) (stand .3))
-              (stored-frame s z part to (to + n) (added .length-kept) (added .table-kept) (added .lists-kept) (omega arith) older (part - 2 * gaugeCount newer) (let w = numbers .2 in let y = depth-few newer in omega arith) (older-stored .0) (older-stored .1))
-
-          new-lies : Lies z (to + n) part (joining .cut older newer)
-          new-lies =
-              cut-lies kind (joining .cut) cut older newer z (to + n) part
-              (let f = added .from-is in let p = place-few in let m = item-count in (omega arith, omega arith))
-              (lies-frame s z part to (to + n) (added .length-kept) (added .table-kept) (added .lists-kept) (omega arith) newer (part - 1) (let w = numbers .1 in omega arith) (stand .3))
-              (lies-frame s z part to (to + n) (added .length-kept) (added .table-kept) (added .lists-kept) (omega arith) older (part - 2 * gaugeCount newer) (let w = numbers .2 in let y = depth-few newer in omega arith) (older-stored .1))
-
-          pub filling-join : Filling file s₀ z (at + 1) (part + 1) (to + n)
-          filling-join =
-              let back : part ≡ part + 1 - 1 = omega arith in
-              let first = stand .1 in
-              let second = stand .4 .1 in
-              let g = cut-gauges kind (joining .cut) cut older newer in
-              let below : Rows z (to + n) rest lo = rows-frame s z part to (to + n) (added .length-kept) (added .table-kept) (added .lists-kept) (omega arith) rest lo (let x = depth-few older in let y = depth-few newer in omega arith) (stand .4 .4) in
-              let all : Rows z (to + n) (joining .cut older newer ∷ rest) (part + 1) = (lo, omega arith, subst (λ (x : ℕ). Stored z x (joining .cut older newer)) back new-stored, subst (λ (x : ℕ). Lies z (to + n) x (joining .cut older newer)) back new-lies, below) in
-              record {
-                ready = k .ready;
-                state = joining .next;
-                walk = joining .walk;
-                length-kept = added .length-kept ∙ k .length-kept;
-                rows = subst (λ (x : List Tree). Rows z (to + n) x (part + 1)) (sym (joining .stack)) all;
-                used-is =
-                    let u = k .used-is in
-                    let before = ap used (joining .stack-before) in
-                    let after = ap used (joining .stack) in
-                    let m = item-count in
-                    let w = cut-used kind (joining .cut) cut older newer in
-                    omega arith;
-              }
-
   module _ (over : length file ≤ at) where
-    last-stack : k .state .stack ≡ face ∷ []
-    last-stack = walk-end file face at (k .state) (k .walk) over
+    last-stack : k .stack ≡ face ∷ []
+    last-stack = walk-end file face at (k .stack) (k .walk) over
 
     root : Rows s to (face ∷ []) part
     root = subst (λ (x : List Tree). Rows s to x part) last-stack (k .rows)
@@ -280,7 +283,7 @@ module _ (file s₀ s : List ℕ) (at part to : ℕ) (k : Filling file s₀ s at
 
     pub filled : (t : Tree) → faceOf file ≡ taken t → Filled s₀ s (part - 1) t
     filled t e =
-        let same : face ≡ t = same-taken face t (sym (k .ready .face) ∙ e) in
+        let same = walk-face file face at (k .stack) (k .walk) t e in
         let n = root .1 in
         let none = root .4 in
         let some = filled-some in

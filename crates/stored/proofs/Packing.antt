@@ -2,15 +2,14 @@
 -- Each turn writes one item more after the last.
 use mathlib.Core.Path.{_≡_, refl, sym, ap, subst, _∙_}
 use mathlib.Core.List.{List, [], _∷_, _++_}
-use Prim.Native.Nat.{ℕ, zero, suc, _+_, _*_, _≤_, _<_}
+use Prim.Native.Nat.{ℕ, _+_, _*_, _≤_, _<_}
 use native.Mathlib.Numerals.{add-one}
 use native.Mathlib.Omega.{arith}
-use lib.ListN.{length, getD, set, drop, length-set}
-use lib.Seq.{getD-set-other, drop-drop}
+use lib.ListN.{length, getD, set, take, length-set}
+use lib.Seq.{getD-set-other, length-take-le, take-suc, take-all}
 use Rattle.slicing.specs.Item.{Item, size}
-use Rattle.facefile.specs.Format.{field, sizeAt}
-use Rattle.facefile.specs.Sizes.{sizesIn}
-use Rattle.facefile.proofs.SizeChecks.{size-at}
+use Rattle.facefile.specs.declared.Size.{Size}
+use Rattle.facefile.specs.Sizes.{sizesIn, SizeIn}
 use Rattle.facefile.proofs.SizesIn.{in-length}
 use Rattle.stored.specs.Packed.{pack, HasList}
 use Rattle.stored.specs.Filling.{entryAt, Added}
@@ -18,24 +17,14 @@ use Rattle.stored.specs.Adding.{Room}
 use Rattle.stored.proofs.StoredLists.{has-grown}
 use Rattle.stored.proofs.EntryLaws.{entry-added}
 
-one-more : (k : ℕ) (bytes : List ℕ) → sizesIn (suc k) bytes ≡ sizesIn k bytes ++ (sizeAt (drop (4 * k) bytes) ∷ [])
-unfolding sizesIn
-one-more zero bytes = refl
-one-more (suc k) bytes =
-    let place : 4 + 4 * k ≡ 4 * suc k = omega arith in
-    ap (λ (l : List Item). sizeAt bytes ∷ l)
-    (one-more k (drop 4 bytes)
-    ∙ ap (λ (b : List ℕ). sizesIn k (drop 4 bytes) ++ (sizeAt b ∷ [])) (drop-drop (4 * k) 4 bytes ∙ ap (λ (n : ℕ). drop n bytes) place))
-
--- What the loop keeps.
+-- What the loop keeps: the first k sizes stand.
 pub record Packing (s₀ : List ℕ) (to : ℕ) (bytes : List ℕ) (count : ℕ) (s : List ℕ) (k : ℕ) : Type 0 where
   pub within : k ≤ count
   pub length-kept : length s ≡ length s₀
-  pub written : HasList s to (sizesIn k bytes)
+  pub written : HasList s to (take k (sizesIn count bytes))
   pub before : (i : ℕ) → i < to → getD s i 0 ≡ getD s₀ i 0
 
 pub packing-start : (s : List ℕ) (to : ℕ) (bytes : List ℕ) (count : ℕ) → to + count ≤ length s → Packing s to bytes count s 0
-unfolding sizesIn
 packing-start s to bytes count room =
     record {
       within = omega arith;
@@ -48,27 +37,27 @@ module _ (s₀ : List ℕ) (to : ℕ) (bytes : List ℕ) (count : ℕ) (s : List
   pub packing-room : to + k < length s
   packing-room = let same = g .length-kept in omega arith
 
-  pub packing-more : (h w v : ℕ) → (h ≡ field bytes (4 * k)) × (h < 65_536) → (w ≡ field bytes (4 * k + 2)) × (w < 65_536) → v ≡ 65_536 * h + w → Packing s₀ to bytes count (set s (to + k) v) (k + 1)
+  pub packing-more : (z : Size) (v : ℕ) → SizeIn bytes k z → v ≡ 65_536 * z .height + z .width → Packing s₀ to bytes count (set s (to + k) v) (k + 1)
   unfolding pack
-  packing-more h w v height width word =
-      let many = in-length k bytes in
+  packing-more z v here word =
+      let many = in-length count bytes in
       let inside = packing-room in
-      let same : size h w ≡ sizeAt (drop (4 * k) bytes) = size-at bytes (4 * k) h w (height .0) (width .0) in
-      let all : sizesIn k bytes ++ (size h w ∷ []) ≡ sizesIn (k + 1) bytes = ap (λ (z : Item). sizesIn k bytes ++ (z ∷ [])) same ∙ sym (ap (λ (n : ℕ). sizesIn n bytes) (add-one k) ∙ one-more k bytes) in
+      let first : length (take k (sizesIn count bytes)) ≡ k = length-take-le k (sizesIn count bytes) (omega arith) in
+      let all : take k (sizesIn count bytes) ++ (size (z .height) (z .width) ∷ []) ≡ take (k + 1) (sizesIn count bytes) = ap (λ (y : Item). take k (sizesIn count bytes) ++ (y ∷ [])) (here .same count more) ∙ sym (ap (λ (n : ℕ). take n (sizesIn count bytes)) (add-one k) ∙ take-suc (sizesIn count bytes) k (size 0 0) (omega arith)) in
       record {
         within = omega arith;
         length-kept = length-set s (to + k) v ∙ g .length-kept;
         written =
             subst (λ (l : List Item). HasList (set s (to + k) v) to l) all
-            (has-grown s to (to + k) (sizesIn k bytes) (size h w) v (g .written) (omega arith) inside word (height .1, width .1));
+            (has-grown s to (to + k) (take k (sizesIn count bytes)) (size (z .height) (z .width)) v (g .written) (omega arith) inside word (here .height-fits, here .width-fits));
         before = λ i less. getD-set-other s (to + k) i v 0 (λ e. omega arith) ∙ g .before i less;
       }
 
 pub packing-done : (s₀ : List ℕ) (to : ℕ) (bytes : List ℕ) (count : ℕ) (s : List ℕ) (k : ℕ) → Packing s₀ to bytes count s k → count ≤ k → HasList s to (sizesIn count bytes) × ((i : ℕ) → i < to → getD s i 0 ≡ getD s₀ i 0)
 packing-done s₀ to bytes count s k g over =
     let within = g .within in
-    let e : k ≡ count = omega arith in
-    (subst (λ (n : ℕ). HasList s to (sizesIn n bytes)) e (g .written), g .before)
+    let many = in-length count bytes in
+    (subst (λ (l : List Item). HasList s to l) (take-all k (sizesIn count bytes) (omega arith)) (g .written), g .before)
 
 -- A gauge is a part once its words stand in the table.
 pub gauge-added : (s₀ s z : List ℕ) (e to n : ℕ) (bytes : List ℕ) → Room s₀ e to n → length s ≡ length s₀ → HasList s to (sizesIn n bytes) → ((i : ℕ) → i < to → getD s i 0 ≡ getD s₀ i 0) → z ≡ entryAt s e to n 1 1 → Added s₀ z e to 1 1 (sizesIn n bytes)

@@ -2,20 +2,20 @@
 use mathlib.Core.List.{List}
 use Prim.Native.Nat.{ℕ, _+_, _*_, _-_, _≤_, _<_}
 use lib.ListN.{length}
+use Rattle.checks.specs.Limits.{bufferWords}
 use Rattle.slicing.specs.Tree.{Tree, gaugeCount}
 use Rattle.slicing.specs.Good.{Good}
-use Rattle.facefile.specs.Kinds.{kindOf}
-use Rattle.facefile.proofs.Took.{Cut}
+use Rattle.facefile.specs.Kinds.{kindOf, Cut}
 use Rattle.stored.specs.Packed.{ownShapes}
 use Rattle.stored.specs.Store.{Entry}
 use Rattle.stored.specs.Filling.{Between}
 
 -- There is room for part e and for n items from the place `to` on.
 pub record Room (s : List ℕ) (e to n : ℕ) : Type 0 where
-  pub long : 16_384 ≤ length s
+  pub long : bufferWords ≤ length s
   pub part : e < 127
   pub from : 508 ≤ to
-  pub items : to + n ≤ 16_384
+  pub items : to + n ≤ bufferWords
 
 -- The part before part e is the newer part b of a join, and the older part a is the one before all entries of b.
 pub record JoinRoom (s : List ℕ) (e to kind : ℕ) (cut : Tree → Tree → Tree) (a b : Tree) : Type 0 where

@@ -3,6 +3,7 @@ use mathlib.Core.Path.{_≡_}
 use mathlib.Core.List.{List, [], _∷_}
 use Prim.Native.Nat.{ℕ, _+_, _*_, _-_, _≤_, _<_}
 use lib.ListN.{length, getD, set}
+use Rattle.checks.specs.Limits.{bufferWords}
 use Rattle.checks.specs.Answer.{taken}
 use Rattle.slicing.specs.Item.{Item}
 use Rattle.slicing.specs.Tree.{Tree, gauge, beside, stacked, gaugeCount}
@@ -49,7 +50,7 @@ Rows s to (t ∷ stack) e =
 pub record Fillable (file s : List ℕ) : Type 0 where
   pub tree : Tree
   pub face : faceOf file ≡ taken tree
-  pub long : 16_384 ≤ length s
+  pub long : bufferWords ≤ length s
 
 -- The whole face is the last part.
 pub record Filled (s z : List ℕ) (e : ℕ) (t : Tree) : Type 0 where

@@ -5,7 +5,7 @@ ghost use lib.ListN.{length, getD};
 ghost use Rattle.checks.specs.Answer.{taken};
 ghost use Rattle.slicing.specs.Tree.{Tree, gaugeCount};
 ghost use Rattle.facefile.specs.Format.{faceOf};
-ghost use Rattle.facefile.specs.Sizes.{sizesIn};
+ghost use Rattle.facefile.specs.Sizes.{sizesIn, Sized};
 ghost use Rattle.stored.specs.Packed.{ownShapes, HasList};
 ghost use Rattle.stored.specs.Filling.{entryAt, stretchOf, Added, Fillable, Filled};
 ghost use Rattle.stored.specs.Adding.{Room, JoinRoom};
@@ -17,7 +17,10 @@ use crate::table::FROM;
 use crate::table::GAUGES;
 use crate::table::KIND;
 use crate::table::part_word;
-use facefile::field::field;
+use facefile::size_in;
+use facefile::walk::Entry;
+use facefile::walk::FIRST_ENTRY;
+use facefile::walk::entry_at;
 
 // The words of the table, four a part. The lists follow it.
 const TABLE: usize = 508;
@@ -36,33 +39,25 @@ fn store_entry(scratch: &mut [u32], part: usize, from: usize, count: usize, kind
 
 // Packs the sizes of a gauge, four bytes a size, from the place `to` on.
 fn store_sizes(scratch: &mut [u32], to: usize, bytes: &[u8], count: usize)
-    requires { ⌜ (length (now bytes) ≡ 4 * count) × (to + count ≤ length (now scratch)) × (count ≤ 8) ⌝ }
+    requires { ⌜ Sized count (now bytes) × (to + count ≤ length (now scratch)) × (count ≤ 8) ⌝ }
     ensures { λ _. ⌜ HasList (now (scratch .exit)) to (sizesIn count (now (bytes .entry))) ⌝ }
     ensures { λ _. ⌜ ((i : ℕ) → i < to → getD (now (scratch .exit)) i 0 ≡ getD (now (scratch .entry)) i 0) ⌝ }
 {
     let mut k = 0;
     while k < count {
-        let height = field(bytes, 4 * k);
-        let width = field(bytes, 4 * k + 2);
-        scratch[to + k] = packed(height, width);
+        let z = size_in(bytes, k);
+        scratch[to + k] = packed(z.height, z.width);
         k += 1;
     }
 }
 
 // Adds a gauge as a part: its sizes from the place `to` on.
 fn store_gauge(scratch: &mut [u32], part: usize, to: usize, bytes: &[u8], count: usize)
-    requires { ⌜ Room (now scratch) part to count × (length (now bytes) ≡ 4 * count) × (count ≤ 8) ⌝ }
+    requires { ⌜ Room (now scratch) part to count × Sized count (now bytes) × (count ≤ 8) ⌝ }
     ensures { λ _. ⌜ Added (now (scratch .entry)) (now (scratch .exit)) part to 1 1 (sizesIn count (now (bytes .entry))) ⌝ }
 {
     store_sizes(scratch, to, bytes, count);
-    store_entry(scratch, part, to, count, 1, 1);
-}
-
-// A byte as an index.
-fn wide(x: u8) -> usize
-    ensures { λ r. ⌜ (r ≡ x) × (r < 256) ⌝ }
-{
-    x as usize
+    store_entry(scratch, part, to, count, facefile::GAUGE as u32, 1);
 }
 
 // A kind as a byte.
@@ -74,7 +69,7 @@ fn byte_of(x: usize) -> u8
 }
 
 // The list of a part, to be read the way of a join.
-fn stretch(scratch: &[u32], part: usize, join: u8) -> Stretch
+pub fn stretch(scratch: &[u32], part: usize, join: u8) -> Stretch
     requires { ⌜ (4 * part + 3 < length (now scratch)) × (getD (now scratch) (4 * part + 2) 0 < 256) ⌝ }
     ensures { λ r. ⌜ r ≡ stretchOf (now (scratch .entry)) part join ⌝ }
 {
@@ -108,22 +103,24 @@ pub fn store_lists(file: &[u8], scratch: &mut [u32]) -> usize
     requires { ⌜ Fillable (now file) (now scratch) ⌝ }
     ensures { λ r. ⌜ ((t : Tree) → faceOf (now (file .entry)) ≡ taken t → Filled (now (scratch .entry)) (now (scratch .exit)) r t) ⌝ }
 {
-    let mut at = 7;
+    let mut at = FIRST_ENTRY;
     let mut part = 0;
     let mut to = TABLE;
     while at < file.len() {
-        let kind = file[at];
-        if kind == facefile::GAUGE {
-            let count = wide(file[at + 1]);
-            let end = at + 2 + 4 * count;
-            store_gauge(scratch, part, to, &file[at + 2..end], count);
-            to += count;
-            at = end;
-            part += 1;
-        } else {
-            to += store_join(scratch, part, to, kind);
-            at += 1;
-            part += 1;
+        match entry_at(file, at) {
+            Entry::Gauge(g) => {
+                let from = g.from;
+                let end = g.to;
+                store_gauge(scratch, part, to, &file[from..end], g.count);
+                to += g.count;
+                at = g.next;
+                part += 1;
+            }
+            Entry::Join(kind, next) => {
+                to += store_join(scratch, part, to, kind);
+                at = next;
+                part += 1;
+            }
         }
     }
     part - 1

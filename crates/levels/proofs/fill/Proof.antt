@@ -11,22 +11,20 @@ read-requires c κs = search needs
 returns : tie.Need-returns
 returns c =
     let at-read = c .before .before in
-    let start = at-read .before .before .before in
-    call-refused (start .args .file .now) (start .args .levels .now) _ (at-read .read .ensures) (c .if1 .taken)
+    call-refused _ _ _ (at-read .read .ensures) (c .if1 .taken)
+
+level-count-number-requires : tie.Need-level-count-number-requires
+level-count-number-requires c κs = search needs
 
 returns-2 : tie.Need-returns-2
 returns-2 c =
-    let at-read = c .before .before .before .before in
-    let start = at-read .before .before .before in
-    call-count (start .args .file .now) (start .args .levels .now) _ (at-read .read .ensures) (c .before .before .if1 .left) (c .if2 .taken)
+    let at-count = c .before in
+    let at-if1 = at-count .before in
+    let at-read = at-if1 .before .before in
+    call-count _ _ _ (at-read .read .ensures) (at-if1 .if1 .left) _ (at-count .level-count-number .ensures) (c .if2 .taken)
 
 fill-taken-requires : tie.Need-fill-taken-requires
-fill-taken-requires c κs =
-    let at-if2 = c .before in
-    let at-if1 = at-if2 .before .before in
-    let at-read = at-if1 .before .before in
-    let start = at-read .before .before .before in
-    call-fills (start .args .file .now) (start .args .levels .now) _ (at-read .read .ensures) (at-if1 .if1 .left) (at-if2 .if2 .left)
+fill-taken-requires c κs = search (needs, call-fills)
 
 same-length : tie.Need-same-length
 same-length c = search needs
@@ -35,10 +33,11 @@ returns-3 : tie.Need-returns-3
 returns-3 c =
     let at-fill-taken = c .before .before in
     let at-if2 = at-fill-taken .before .before in
-    let at-if1 = at-if2 .before .before in
+    let at-count = at-if2 .before in
+    let at-if1 = at-count .before in
     let at-read = at-if1 .before .before in
     let start = at-read .before .before .before in
-    call-taken (start .args .file .now) (start .args .levels .now) _ (at-read .read .ensures) (at-if1 .if1 .left) (at-if2 .if2 .left) _ (at-fill-taken .fill-taken .ensures)
+    call-taken _ (start .args .levels .now) _ (at-read .read .ensures) (at-if1 .if1 .left) _ (at-count .level-count-number .ensures) (at-if2 .if2 .left) _ (at-fill-taken .fill-taken .ensures)
 
 pub fill-spec : {M : Type 1} → statement M
 fill-spec =
@@ -46,6 +45,7 @@ fill-spec =
     (tie.spec
     read-requires
     returns
+    level-count-number-requires
     returns-2
     fill-taken-requires
     same-length

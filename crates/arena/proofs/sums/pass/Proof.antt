@@ -1,12 +1,14 @@
 -- `arena::sums::pass` meets its contract.
 -- The loop keeps `Renewing`, that the sums from l up are those after the record; the measure is l.
 use borrow.Author.Needs.{needs}
-use Rattle.arena.proofs.Summing.{Renewing, renewing-start, renewing-more, renewing-done}
+use mathlib.Core.Path.{_∙_}
+use Rattle.arena.specs.Arena.{level, adjust}
+use Rattle.arena.proofs.Summing.{Renewing, renewing-start, renewing-more, passing-done}
 use Rattle.arena.proofs.sums.pass.Statement.{statement}
 use Rattle.arena.proofs.sums.pass.Tie as tie
 
 abbrev Inv-loop : tie.InvT-loop
-Inv-loop arena r sums₀ l₀ sums l = Renewing arena r sums₀ sums l
+Inv-loop arena r sums₀ l₀ sums l = Renewing (adjust arena r) (level arena r) sums₀ sums l
 
 abbrev μ-loop : tie.MeasureT-loop
 μ-loop arena r sums₀ l₀ sums l = l
@@ -18,7 +20,7 @@ wide-requires : tie.Need-wide-requires Inv-loop μ-loop
 wide-requires c κs = search needs
 
 loop-holds : tie.Need-loop-holds Inv-loop μ-loop
-loop-holds c = search (needs, renewing-start)
+loop-holds c = renewing-start _ _ _ _ (search needs) (c .wide .ensures ∙ c .before .get .ensures)
 
 sub-k : tie.Need-sub-k Inv-loop μ-loop
 sub-k c = search needs
@@ -54,7 +56,7 @@ same-length : tie.Need-same-length Inv-loop μ-loop
 same-length c = search needs
 
 returns : tie.Need-returns Inv-loop μ-loop
-returns c = search (needs, renewing-done)
+returns c = search (needs, passing-done)
 
 pub pass-spec : {M : Type 1} → statement M
 pass-spec =

@@ -2,7 +2,7 @@
 -- Each way out is one of the definition: a check of the file, a check of what was lent, or the face placed.
 use native.Mathlib.Omega.{arith}
 use borrow.Author.Needs.{needs}
-use Rattle.fit.proofs.FitCall.{fit-file, fit-gauges, fit-lent-no, fit-builds, fit-places, fit-done}
+use Rattle.fit.proofs.FitCall.{fit-file, fit-gauges, fit-asked, fit-builds, fit-places, fit-done}
 use Rattle.fit.proofs.fitting.fit.Statement.{statement}
 use Rattle.fit.proofs.fitting.fit.Tie as tie
 
@@ -18,8 +18,8 @@ returns c =
     let start = at-read .before .before .before .before .before .before in
     fit-file (start .args .file .now) (start .args .levels .now) (start .args .height) (start .args .width) (start .args .arena .now) (start .args .scratch .now) (start .args .output .now) _ (at-read .read .ensures) (c .before .if1 .taken) _ (c .refused .ensures)
 
-lent-number-requires : tie.Need-lent-number-requires
-lent-number-requires c κs =
+asked-number-requires : tie.Need-asked-number-requires
+asked-number-requires c κs =
     let start = c .before .before .before .before .before .before .before .before in
     fit-gauges (start .args .file .now) (start .args .levels .now) (start .args .height) (start .args .width) (start .args .arena .now) (start .args .scratch .now) (start .args .output .now) _ (c .before .before .read .ensures) (c .if1 .left)
 
@@ -31,23 +31,23 @@ returns-2 c =
     let at-if1 = c .before .before .before in
     let at-read = at-if1 .before .before in
     let start = at-read .before .before .before .before .before .before in
-    fit-lent-no (start .args .file .now) (start .args .levels .now) (start .args .height) (start .args .width) (start .args .arena .now) (start .args .scratch .now) (start .args .output .now) _ (at-read .read .ensures) (at-if1 .if1 .left) _ (c .before .before .lent-number .ensures) (λ e. let t = c .before .if2 .taken in omega arith) _ (c .refused2 .ensures)
+    fit-asked (start .args .file .now) (start .args .levels .now) (start .args .height) (start .args .width) (start .args .arena .now) (start .args .scratch .now) (start .args .output .now) _ (at-read .read .ensures) (at-if1 .if1 .left) _ (c .before .before .asked-number .ensures) (λ e. let t = c .before .if2 .taken in omega arith) _ (c .refused2 .ensures)
 
 build-requires : tie.Need-build-requires
 build-requires c κs =
     let at-if1 = c .before .before .before in
     let at-read = at-if1 .before .before in
     let start = at-read .before .before .before .before .before .before in
-    fit-builds (start .args .file .now) (start .args .levels .now) (start .args .height) (start .args .width) (start .args .arena .now) (start .args .scratch .now) (start .args .output .now) _ (at-read .read .ensures) (at-if1 .if1 .left) _ (c .before .before .lent-number .ensures) (let t = c .before .if2 .left in omega arith)
+    fit-builds (start .args .file .now) (start .args .levels .now) (start .args .height) (start .args .width) (start .args .arena .now) (start .args .scratch .now) (start .args .output .now) _ (at-read .read .ensures) (at-if1 .if1 .left) _ (c .before .before .asked-number .ensures) (let t = c .before .if2 .left in omega arith)
 
 place-face-requires : tie.Need-place-face-requires
 place-face-requires c κs =
     let at-if2 = c .before .before .before .before .before .before in
-    let at-lent-number = at-if2 .before in
-    let at-if1 = at-lent-number .before in
+    let at-asked-number = at-if2 .before in
+    let at-if1 = at-asked-number .before in
     let at-read = at-if1 .before .before in
     let start = at-read .before .before .before .before .before .before in
-    fit-places (start .args .file .now) (start .args .levels .now) (start .args .height) (start .args .width) (start .args .arena .now) (start .args .scratch .now) (start .args .output .now) _ (at-read .read .ensures) (at-if1 .if1 .left) _ (at-lent-number .lent-number .ensures) (let t = at-if2 .if2 .left in omega arith)
+    fit-places (start .args .file .now) (start .args .levels .now) (start .args .height) (start .args .width) (start .args .arena .now) (start .args .scratch .now) (start .args .output .now) _ (at-read .read .ensures) (at-if1 .if1 .left) _ (at-asked-number .asked-number .ensures) (let t = at-if2 .if2 .left in omega arith)
 
 same-length : tie.Need-same-length
 same-length c = search needs
@@ -63,11 +63,11 @@ returns-3 c =
     let at-place-face = c .before .before .before .before in
     let at-build = at-place-face .before .before .before .before .before in
     let at-if2 = at-build .before .before in
-    let at-lent-number = at-if2 .before in
-    let at-if1 = at-lent-number .before in
+    let at-asked-number = at-if2 .before in
+    let at-if1 = at-asked-number .before in
     let at-read = at-if1 .before .before in
     let start = at-read .before .before .before .before .before .before in
-    fit-done (start .args .file .now) (start .args .levels .now) (start .args .height) (start .args .width) (start .args .arena .now) (start .args .scratch .now) (start .args .output .now) _ (at-read .read .ensures) (at-if1 .if1 .left) _ (at-lent-number .lent-number .ensures) (let t = at-if2 .if2 .left in omega arith) _ _ _ _ _ (at-build .build .ensures) (at-place-face .place-face .ensures)
+    fit-done (start .args .file .now) (start .args .levels .now) (start .args .height) (start .args .width) (start .args .arena .now) (start .args .scratch .now) (start .args .output .now) _ (at-read .read .ensures) (at-if1 .if1 .left) _ (at-asked-number .asked-number .ensures) (let t = at-if2 .if2 .left in omega arith) _ _ _ _ _ (at-build .build .ensures) (at-place-face .place-face .ensures)
 
 pub fit-spec : {M : Type 1} → statement M
 fit-spec =
@@ -76,7 +76,7 @@ fit-spec =
     read-requires
     refused-requires
     returns
-    lent-number-requires
+    asked-number-requires
     refused-requires-2
     returns-2
     build-requires

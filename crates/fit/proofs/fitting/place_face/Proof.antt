@@ -1,42 +1,54 @@
 -- `fit::fitting::place_face` meets its contract.
 -- The stored root's list is the face's, and each call is ready for the next.
+use native.Mathlib.Omega.{arith}
 use borrow.Author.Needs.{needs}
-use Rattle.fit.proofs.FaceLaws.{face-fills, root-inside, root-list, face-none, face-reads, face-lays, face-counts, face-done}
+use Rattle.slicing.specs.Layout.{outline}
+use Rattle.picking.proofs.Looking.{halves-low}
+use Rattle.fit.proofs.FaceLaws.{area-fits, root-ready, root-list, Chosen, face-none, face-place, face-lays, face-counts, face-done}
 use Rattle.fit.proofs.fitting.place_face.Statement.{statement}
 use Rattle.fit.proofs.fitting.place_face.Tie as tie
 
+-- The places of the calls, each from a later one.
+abbrev start : tie.After-store-lists → tie.Start
+start c = c .before .before .before .before .before
+
+abbrev at-store : tie.After-stretch → tie.After-store-lists
+at-store c = c .before .before .before .before
+
+abbrev at-stretch : tie.After-pick → tie.After-stretch
+at-stretch c = c .before .before
+
+abbrev at-pick : tie.Else1 → tie.After-pick
+at-pick c = c .before .before
+
+abbrev at-found : tie.After-p-of → tie.Else1
+at-found c = c .before .before .before .before
+
+abbrev at-width : tie.After-lay → tie.After-p-of
+at-width c = c .before .before .before .before
+
+module _ (c : tie.After-pick) where
+  abbrev stored : tie.After-store-lists
+  stored = at-store (at-stretch c)
+
+  abbrev entry : tie.Start
+  entry = start stored
+
+  chosen :
+      Chosen (entry .args .file .now) (entry .args .scratch .now) (stored .store-lists .last .1 .0) (stored .store-lists .result) (outline (entry .args .height) (entry .args .width))
+      (at-stretch c .stretch .result) (c .pick .result .found) (c .pick .result .place)
+  chosen = record { filled = stored .store-lists .ensures; root-is = at-stretch c .stretch .ensures; picks = c .pick .ensures }
+
 store-lists-requires : tie.Need-store-lists-requires
-store-lists-requires c κs =
-    face-fills _ _ _ _ (c .before .before .before .before .pre)
+store-lists-requires c κs = search needs
 
-part-word-requires : tie.Need-part-word-requires
-part-word-requires c κs =
-    let at-store-lists = c .before .before .before in
-    let entry = at-store-lists .before .before .before .before .before in
-    (root-inside _ _ _ _ _ (entry .args .gauges) (entry .args .height) (entry .args .width) (at-store-lists .store-lists .ensures) (entry .pre), search needs)
-
-part-word-requires-2 : tie.Need-part-word-requires-2
-part-word-requires-2 c κs =
-    let at-store-lists = c .before .before .before .before .before in
-    let entry = at-store-lists .before .before .before .before .before in
-    (root-inside _ _ _ _ _ (entry .args .gauges) (entry .args .height) (entry .args .width) (at-store-lists .store-lists .ensures) (entry .pre), search needs)
-
-part-word-requires-3 : tie.Need-part-word-requires-3
-part-word-requires-3 c κs =
-    let at-store-lists = c .before .before .before .before .before .before .before in
-    let entry = at-store-lists .before .before .before .before .before in
-    (root-inside _ _ _ _ _ (entry .args .gauges) (entry .args .height) (entry .args .width) (at-store-lists .store-lists .ensures) (entry .pre), search needs)
-
-is-against-requires : tie.Need-is-against-requires
-is-against-requires c κs = search needs
+stretch-requires : tie.Need-stretch-requires
+stretch-requires c κs =
+    let at = c .before .before .before in root-ready (at .store-lists .ensures) (start at .pre)
 
 pick-requires : tie.Need-pick-requires
 pick-requires c κs =
-    let at-part-word2 = c .before .before .before .before in
-    let at-part-word = at-part-word2 .before .before in
-    let at-store-lists = at-part-word .before .before .before .before in
-    let entry = at-store-lists .before .before .before .before .before in
-    root-list _ _ _ _ _ (entry .args .gauges) (entry .args .height) (entry .args .width) (at-store-lists .store-lists .ensures) _ _ _ _ (at-part-word .part-word .ensures) (at-part-word2 .part-word2 .ensures) (c .before .before .part-word3 .ensures) (c .before .is-against .ensures) (entry .pre)
+    let at = at-store (c .before) in root-list (at .store-lists .ensures) (start at .pre) (c .before .stretch .ensures)
 
 refused-requires : tie.Need-refused-requires
 refused-requires c κs = search needs
@@ -45,94 +57,64 @@ same-length : tie.Need-same-length
 same-length c = search needs
 
 returns : tie.Need-returns
-returns c =
-    let at-pick = c .before .before .before in
-    let at-is-against = at-pick .before .before in
-    let at-part-word3 = at-is-against .before in
-    let at-part-word2 = at-part-word3 .before .before in
-    let at-part-word = at-part-word2 .before .before in
-    let at-store-lists = at-part-word .before .before .before .before in
-    let start = at-store-lists .before .before .before .before .before in
-    face-none _ _ _ _ _ (start .args .gauges) (start .args .height) (start .args .width) (at-store-lists .store-lists .ensures) _ _ _ _ (at-part-word .part-word .ensures) (at-part-word2 .part-word2 .ensures) (at-part-word3 .part-word3 .ensures) (at-is-against .is-against .ensures) _ _ (at-pick .pick .ensures) (c .before .if1 .taken) _ (c .refused .ensures)
+returns c = face-none (chosen (c .before .before .before)) (c .before .if1 .taken) _ (c .refused .ensures)
 
-read-item-requires : tie.Need-read-item-requires
-read-item-requires c κs =
-    let at-pick = c .before .before .before in
-    let at-is-against = at-pick .before .before in
-    let at-part-word3 = at-is-against .before in
-    let at-part-word2 = at-part-word3 .before .before in
-    let at-part-word = at-part-word2 .before .before in
-    let at-store-lists = at-part-word .before .before .before .before in
-    let entry = at-store-lists .before .before .before .before .before in
-    face-reads _ _ _ _ _ (entry .args .gauges) (entry .args .height) (entry .args .width) (at-store-lists .store-lists .ensures) _ _ _ _ (at-part-word .part-word .ensures) (at-part-word2 .part-word2 .ensures) (at-part-word3 .part-word3 .ensures) (at-is-against .is-against .ensures) _ _ (at-pick .pick .ensures) (c .before .if1 .left) (entry .pre)
+item-at-requires : tie.Need-item-at-requires
+item-at-requires c κs = face-place (chosen (at-pick (c .before))) (c .before .if1 .left) (entry (at-pick (c .before)) .pre)
+
+m-of-requires : tie.Need-m-of-requires
+m-of-requires c κs = search needs
+
+p-of-requires : tie.Need-p-of-requires
+p-of-requires c κs = search needs
+
+cast-count : tie.Need-cast-count
+cast-count c =
+    let found = at-found (c .before) in
+    record { fits = face-counts (chosen (at-pick found)) (found .if1 .left) (entry (at-pick found) .pre) }
 
 lay-requires : tie.Need-lay-requires
 lay-requires c κs =
-    let at-if1 = c .before .before .before .before in
-    let at-pick = at-if1 .before .before in
-    let at-is-against = at-pick .before .before in
-    let at-part-word3 = at-is-against .before in
-    let at-part-word2 = at-part-word3 .before .before in
-    let at-part-word = at-part-word2 .before .before in
-    let at-store-lists = at-part-word .before .before .before .before in
-    let entry = at-store-lists .before .before .before .before .before in
-    face-lays _ _ _ _ _ (entry .args .gauges) (entry .args .height) (entry .args .width) (at-store-lists .store-lists .ensures) _ _ _ _ (at-part-word .part-word .ensures) (at-part-word2 .part-word2 .ensures) (at-part-word3 .part-word3 .ensures) (at-is-against .is-against .ensures) _ _ (at-pick .pick .ensures) (at-if1 .if1 .left) (entry .pre)
+    let found = at-found (c .before .before .before) in
+    face-lays (chosen (at-pick found)) (found .if1 .left) (entry (at-pick found) .pre)
 
-cast-found : tie.Need-cast-found
-cast-found c =
-    let at-if1 = c .before .before .before .before .before .before .before in
-    let at-pick = at-if1 .before .before in
-    let at-is-against = at-pick .before .before in
-    let at-part-word3 = at-is-against .before in
-    let at-part-word2 = at-part-word3 .before .before in
-    let at-part-word = at-part-word2 .before .before in
-    let at-store-lists = at-part-word .before .before .before .before in
-    let entry = at-store-lists .before .before .before .before .before in
-    record { fits = face-counts _ _ _ _ _ (entry .args .gauges) (entry .args .height) (entry .args .width) (at-store-lists .store-lists .ensures) _ _ _ _ (at-part-word .part-word .ensures) (at-part-word2 .part-word2 .ensures) (at-part-word3 .part-word3 .ensures) (at-is-against .is-against .ensures) _ _ (at-pick .pick .ensures) (at-if1 .if1 .left) (entry .pre) }
-
-found-requires : tie.Need-found-requires
-found-requires c κs = search needs
+mul-t29 : tie.Need-mul-t29
+mul-t29 c =
+    let at = at-width (c .before .before) in
+    let low = halves-low _ _ _ (search needs) (at .before .m-of .ensures) (at .p-of .ensures) in
+    let high = low .0 in
+    let wide = low .1 in
+    record { fits = area-fits _ _ (omega arith) (omega arith) }
 
 same-length-2 : tie.Need-same-length-2
-same-length-2 c =
-    let at-store-lists = c .before .before .before .before .before .before .before .before .before .before .before .before .before .before .before .before .before .before .before .before .before in
-    let entry = at-store-lists .before .before .before .before .before in
-    at-store-lists .store-lists .ensures (entry .pre .tree) (entry .pre .face) .length-kept
+same-length-2 c = search needs
 
 same-length-3 : tie.Need-same-length-3
 same-length-3 c = search needs
 
 returns-2 : tie.Need-returns-2
 returns-2 c =
-    let at-lay = c .before .before .before in
-    let at-read-item = at-lay .before .before .before in
-    let at-if1 = at-read-item .before .before in
-    let at-pick = at-if1 .before .before in
-    let at-is-against = at-pick .before .before in
-    let at-part-word3 = at-is-against .before in
-    let at-part-word2 = at-part-word3 .before .before in
-    let at-part-word = at-part-word2 .before .before in
-    let at-store-lists = at-part-word .before .before .before .before in
-    let entry = at-store-lists .before .before .before .before .before in
-    face-done _ _ _ _ _ (entry .args .gauges) (entry .args .height) (entry .args .width) (at-store-lists .store-lists .ensures) _ _ _ _ (at-part-word .part-word .ensures) (at-part-word2 .part-word2 .ensures) (at-part-word3 .part-word3 .ensures) (at-is-against .is-against .ensures) _ _ (at-pick .pick .ensures) (at-if1 .if1 .left) (entry .pre) _ _ _ (at-read-item .read-item .ensures) (at-lay .lay .ensures) (c .found .ensures)
+    let at-lay = c .before .before in
+    let at = at-width at-lay in
+    let found = at-found at in
+    face-done (chosen (at-pick found)) (found .if1 .left) (entry (at-pick found) .pre) (at .before .before .item-at .ensures) (at .before .m-of .ensures) (at .p-of .ensures) (at-lay .lay .ensures)
 
 pub place-face-spec : {M : Type 1} → statement M
 place-face-spec =
     tie.close
     (tie.spec
     store-lists-requires
-    part-word-requires
-    part-word-requires-2
-    part-word-requires-3
-    is-against-requires
+    stretch-requires
     pick-requires
     refused-requires
     same-length
     returns
-    read-item-requires
+    item-at-requires
+    m-of-requires
+    p-of-requires
+    cast-count
     lay-requires
-    cast-found
-    found-requires
+    mul-t29
     same-length-2
     same-length-3
     returns-2)

@@ -3,8 +3,8 @@
 use mathlib.Core.Path.{_≡_, sym, _∙_}
 use native.Mathlib.Omega.{arith}
 use borrow.Author.Needs.{needs}
-use Rattle.merging.specs.Cached.{Kept}
-use Rattle.merging.specs.Running.{bothWait}
+use Rattle.stepping.specs.Trio.{Kept}
+use Rattle.merging.specs.Runs.{bothWait}
 use Rattle.merging.proofs.RunsLaws.{Goes, waiting, goes-start, goes-ready, goes-turn, goes-less, goes-done}
 use Rattle.merging.proofs.runs.merge_runs.Statement.{statement}
 use Rattle.merging.proofs.runs.merge_runs.Tie as tie
@@ -42,7 +42,7 @@ both-wait-requires-2 c κs =
     let given = c .before .before .before .before .before in
     let stepped = given .before .before .before .before .before .before in
     let loop = at-turn stepped .before in
-    let lists = entry loop .pre .0 .8 .runs .waits .lists in
+    let lists = entry loop .pre .0 .1 .merging .runs .waits .lists in
     let older = lists .older .linked .has in
     let newer = lists .newer .linked .has in
     let long = loop .loop .inv .0 .length-kept in

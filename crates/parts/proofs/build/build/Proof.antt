@@ -1,11 +1,11 @@
 -- `parts::build::build` meets its contract.
 -- The loop keeps `Standing`, that the parts of the stack stand in the arena; the measure is the bytes left.
-use mathlib.Core.Path.{refl}
 use Prim.Native.Nat.{_-_}
 use native.Mathlib.Omega.{arith}
 use lib.ListN.{length}
 use borrow.Author.Needs.{needs}
-use Rattle.parts.proofs.Standing.{Standing, standing-long, standing-start, gauge-room, gauge-inside, levels-left, records-left, gauge-loads, standing-gauge, join-parts, join-few, join-ready, standing-join, standing-whole}
+use Rattle.facefile.proofs.WalkSteps.{gauge-upward, gauge-inside, gauge-less, join-less}
+use Rattle.parts.proofs.Standing.{Standing, standing-long, standing-start, gauge-room, levels-left, records-left, gauge-loads, standing-gauge, join-parts, join-some, join-ready, standing-join, standing-whole}
 use Rattle.parts.proofs.build.build.Statement.{statement}
 use Rattle.parts.proofs.build.build.Tie as tie
 
@@ -16,180 +16,98 @@ abbrev μ-loop : tie.MeasureT-loop
 μ-loop file levels arena₀ kinds₀ at₀ parts₀ size₀ arena kinds at parts size = length file - at
 
 loop-holds : tie.Need-loop-holds Inv-loop μ-loop
-loop-holds c =
-    search (needs, standing-start)
+loop-holds c = search (needs, standing-start)
 
-shared-slice-read-kind : tie.Need-shared-slice-read-kind Inv-loop μ-loop
-shared-slice-read-kind c =
-    search needs
+entry-at-requires : tie.Need-entry-at-requires Inv-loop μ-loop
+entry-at-requires c κs = search needs
 
-add-wide : tie.Need-add-wide Inv-loop μ-loop
-add-wide c =
-    search needs
-
-shared-slice-read-wide : tie.Need-shared-slice-read-wide Inv-loop μ-loop
-shared-slice-read-wide c =
-    let inside = gauge-inside _ _ _ _ _ _ _ _ (c .before .before .before .before .loop .inv) (c .before .before .before .loop-test .taken) (c .before .if1 .taken) in omega arith
-
-wide-requires : tie.Need-wide-requires Inv-loop μ-loop
-wide-requires c κs =
-    search needs
+enum-known-g : tie.Need-enum-known-g Inv-loop μ-loop
+enum-known-g c = search needs
 
 add-end : tie.Need-add-end Inv-loop μ-loop
 add-end c =
-    search needs
-
-mul-end : tie.Need-mul-end Inv-loop μ-loop
-mul-end c =
-    search needs
-
-add-end-2 : tie.Need-add-end-2 Inv-loop μ-loop
-add-end-2 c =
-    let inside = gauge-inside _ _ _ _ _ _ _ _ (c .before .before .before .before .before .loop .inv) (c .before .before .before .before .loop-test .taken) (c .before .before .if1 .taken) in let w = c .wide .ensures .0 in omega arith
+    let at-match = c .before .before in
+    let at-entry = at-match .before .before in
+    let left = records-left _ _ _ _ _ _ _ _ (at-entry .before .before .loop .inv) _ (at-entry .entry-at .ensures) _ (at-match .g .given .1) in
+    record { fits = omega arith }
 
 add-load : tie.Need-add-load Inv-loop μ-loop
-add-load c =
-    search needs
+add-load c = search needs
 
 add-load-2 : tie.Need-add-load-2 Inv-loop μ-loop
-add-load-2 c =
-    record { fits = let r = records-left _ _ _ _ _ _ _ _ (c .before .before .before .before .before .before .loop .inv) (c .before .before .before .before .before .loop-test .taken) (c .before .before .before .if1 .taken) _ (c .before .wide .ensures .0) in omega arith }
-
-add-load-3 : tie.Need-add-load-3 Inv-loop μ-loop
-add-load-3 c =
-    search needs
+add-load-2 c = search needs
 
 sub-load : tie.Need-sub-load Inv-loop μ-loop
-sub-load c =
-    search needs
+sub-load c = search (needs, gauge-upward)
 
 part-load-start : tie.Need-part-load-start Inv-loop μ-loop
-part-load-start c =
-    search needs
+part-load-start c = search (needs, gauge-upward)
 
 part-load-end : tie.Need-part-load-end Inv-loop μ-loop
-part-load-end c =
-    let inside = gauge-inside _ _ _ _ _ _ _ _ (c .before .before .before .before .before .before .loop .inv) (c .before .before .before .before .before .loop-test .taken) (c .before .before .before .if1 .taken) in let w = c .before .wide .ensures .0 in omega arith
-
-add-load-4 : tie.Need-add-load-4 Inv-loop μ-loop
-add-load-4 c =
-    let at-if1 = c .before .before .before .before in
-    let at-loop-test = at-if1 .before .before in
-    let at-loop = at-loop-test .before in
-    let l = levels-left _ _ _ _ _ _ _ _ (at-loop .loop .inv) (at-loop-test .loop-test .taken) (at-if1 .if1 .taken) _ (c .before .before .wide .ensures .0) in let r = records-left _ _ _ _ _ _ _ _ (at-loop .loop .inv) (at-loop-test .loop-test .taken) (at-if1 .if1 .taken) _ (c .before .before .wide .ensures .0) in omega arith
+part-load-end c = search (needs, gauge-inside)
 
 sub-load-2 : tie.Need-sub-load-2 Inv-loop μ-loop
-sub-load-2 c =
-    search needs
+sub-load-2 c = search needs
 
 part-load-start-2 : tie.Need-part-load-start-2 Inv-loop μ-loop
-part-load-start-2 c =
-    search needs
+part-load-start-2 c = search needs
 
 part-load-end-2 : tie.Need-part-load-end-2 Inv-loop μ-loop
-part-load-end-2 c =
-    let at-if1 = c .before .before .before .before in
-    let at-loop-test = at-if1 .before .before in
-    let at-loop = at-loop-test .before in
-    let l = levels-left _ _ _ _ _ _ _ _ (at-loop .loop .inv) (at-loop-test .loop-test .taken) (at-if1 .if1 .taken) _ (c .before .before .wide .ensures .0) in let r = records-left _ _ _ _ _ _ _ _ (at-loop .loop .inv) (at-loop-test .loop-test .taken) (at-if1 .if1 .taken) _ (c .before .before .wide .ensures .0) in omega arith
+part-load-end-2 c = search (needs, levels-left)
 
 load-requires : tie.Need-load-requires Inv-loop μ-loop
-load-requires c κs =
-    let at-wide = c .before .before .before in
-    let at-if1 = at-wide .before .before in
-    let at-loop-test = at-if1 .before .before in
-    let at-loop = at-loop-test .before in
-    gauge-loads _ _ _ _ _ _ _ _ (at-loop .loop .inv) (at-loop-test .loop-test .taken) (at-if1 .if1 .taken) _ (at-wide .wide .ensures .0)
+load-requires c κs = search (needs, gauge-loads)
 
 array-write-kinds : tie.Need-array-write-kinds Inv-loop μ-loop
-array-write-kinds c =
-    let at-if1 = c .before .before .before .before .before .before .before .before in
-    let at-loop-test = at-if1 .before .before in
-    let at-loop = at-loop-test .before in
-    gauge-room _ _ _ _ _ _ _ _ (at-loop .loop .inv) (at-loop-test .loop-test .taken) (at-if1 .if1 .taken)
+array-write-kinds c = search (needs, gauge-room)
 
 add-parts : tie.Need-add-parts Inv-loop μ-loop
-add-parts c =
-    search needs
-
-add-size : tie.Need-add-size Inv-loop μ-loop
-add-size c =
-    let at-wide = c .before .before .before .before .before .before in
-    let at-if1 = at-wide .before .before in
-    let at-loop-test = at-if1 .before .before in
-    let at-loop = at-loop-test .before in
-    let l = levels-left _ _ _ _ _ _ _ _ (at-loop .loop .inv) (at-loop-test .loop-test .taken) (at-if1 .if1 .taken) _ (at-wide .wide .ensures .0) in let r = records-left _ _ _ _ _ _ _ _ (at-loop .loop .inv) (at-loop-test .loop-test .taken) (at-if1 .if1 .taken) _ (at-wide .wide .ensures .0) in omega arith
+add-parts c = search needs
 
 loop-less : tie.Need-loop-less Inv-loop μ-loop
-loop-less c =
-    search needs
+loop-less c = search (needs, gauge-less)
 
 loop-again : tie.Need-loop-again Inv-loop μ-loop
-loop-again c =
-    let at-wide = c .before .before .before .before .before .before in
-    let at-if1 = at-wide .before .before in
-    let at-loop-test = at-if1 .before .before in
-    let at-loop = at-loop-test .before in
-    standing-gauge _ _ _ _ _ _ _ _ (at-loop .loop .inv) (at-loop-test .loop-test .taken) (at-if1 .if1 .taken) _ (at-wide .wide .ensures .0) _ _ _ (c .before .before .load .ensures) refl refl
+loop-again c = search (needs, standing-gauge)
+
+enum-known-kind : tie.Need-enum-known-kind Inv-loop μ-loop
+enum-known-kind c = search needs
 
 sub-older : tie.Need-sub-older Inv-loop μ-loop
-sub-older c =
-    join-parts _ _ _ _ _ _ _ _ (c .before .before .before .loop .inv) (c .before .before .loop-test .taken) (c .if1 .left)
+sub-older c = search (needs, join-parts)
 
 array-read-runs-across : tie.Need-array-read-runs-across Inv-loop μ-loop
-array-read-runs-across c =
-    let some = join-parts _ _ _ _ _ _ _ _ (c .before .before .before .loop .inv) (c .before .before .loop-test .taken) (c .if1 .left) in let few = join-few _ _ _ _ _ _ _ _ (c .before .before .before .loop .inv) (c .before .before .loop-test .taken) (c .if1 .left) in omega arith
+array-read-runs-across c = search needs
 
 runs-across-requires : tie.Need-runs-across-requires Inv-loop μ-loop
-runs-across-requires c κs =
-    search needs
+runs-across-requires c κs = search needs
 
 add-runs-across : tie.Need-add-runs-across Inv-loop μ-loop
-add-runs-across c =
-    search needs
+add-runs-across c = search needs
 
 array-read-runs-across-2 : tie.Need-array-read-runs-across-2 Inv-loop μ-loop
-array-read-runs-across-2 c =
-    let some = join-parts _ _ _ _ _ _ _ _ (c .before .before .before .before .loop .inv) (c .before .before .before .loop-test .taken) (c .before .if1 .left) in let few = join-few _ _ _ _ _ _ _ _ (c .before .before .before .before .loop .inv) (c .before .before .before .loop-test .taken) (c .before .if1 .left) in omega arith
+array-read-runs-across-2 c = search needs
 
 runs-across-requires-2 : tie.Need-runs-across-requires-2 Inv-loop μ-loop
-runs-across-requires-2 c κs =
-    search needs
+runs-across-requires-2 c κs = search needs
 
 join-requires : tie.Need-join-requires Inv-loop μ-loop
 join-requires c κs =
-    join-ready _ _ _ _ _ _ _ _ (c .before .before .before .before .before .before .loop .inv) (c .before .before .before .before .before .loop-test .taken) (c .before .before .before .if1 .left) _ refl _ _ (c .before .before .runs-across .ensures) (c .before .runs-across2 .ensures)
+    let at-match = c .before .before .before .before in
+    let at-entry = at-match .before .before in
+    join-ready _ _ _ _ _ _ _ _ (at-entry .before .before .loop .inv) _ (at-entry .entry-at .ensures) _ _ (at-match .kind .given .1) _ _ (c .before .before .runs-across .ensures) (c .before .runs-across2 .ensures)
 
 array-write-kinds-2 : tie.Need-array-write-kinds-2 Inv-loop μ-loop
-array-write-kinds-2 c =
-    let at-if1 = c .before .before .before .before .before .before in
-    let at-loop-test = at-if1 .before .before in
-    let at-loop = at-loop-test .before in
-    let some = join-parts _ _ _ _ _ _ _ _ (at-loop .loop .inv) (at-loop-test .loop-test .taken) (at-if1 .if1 .left) in let few = join-few _ _ _ _ _ _ _ _ (at-loop .loop .inv) (at-loop-test .loop-test .taken) (at-if1 .if1 .left) in omega arith
+array-write-kinds-2 c = search needs
 
 sub-parts : tie.Need-sub-parts Inv-loop μ-loop
-sub-parts c =
-    let at-if1 = c .before .before .before .before .before .before in
-    let at-loop-test = at-if1 .before .before in
-    let at-loop = at-loop-test .before in
-    let some = join-parts _ _ _ _ _ _ _ _ (at-loop .loop .inv) (at-loop-test .loop-test .taken) (at-if1 .if1 .left) in omega arith
-
-add-at : tie.Need-add-at Inv-loop μ-loop
-add-at c =
-    search needs
+sub-parts c = search (needs, join-some)
 
 loop-less-2 : tie.Need-loop-less-2 Inv-loop μ-loop
-loop-less-2 c =
-    search needs
+loop-less-2 c = search (needs, join-less)
 
 loop-again-2 : tie.Need-loop-again-2 Inv-loop μ-loop
-loop-again-2 c =
-    let at-runs-across2 = c .before .before .before .before in
-    let at-runs-across = at-runs-across2 .before in
-    let at-if1 = at-runs-across .before in
-    let at-loop-test = at-if1 .before .before in
-    let at-loop = at-loop-test .before in
-    standing-join _ _ _ _ _ _ _ _ (at-loop .loop .inv) (at-loop-test .loop-test .taken) (at-if1 .if1 .left) _ refl _ _ (at-runs-across .runs-across .ensures) (at-runs-across2 .runs-across2 .ensures) _ _ (c .before .before .join .ensures) refl
+loop-again-2 c = search (needs, standing-join)
 
 copy-head-requires : tie.Need-copy-head-requires Inv-loop μ-loop
 copy-head-requires c κs =
@@ -197,16 +115,13 @@ copy-head-requires c κs =
     (omega arith, omega arith)
 
 array-read-result : tie.Need-array-read-result Inv-loop μ-loop
-array-read-result c =
-    search needs
+array-read-result c = search needs
 
 same-length : tie.Need-same-length Inv-loop μ-loop
-same-length c =
-    search needs
+same-length c = search needs
 
 returns : tie.Need-returns Inv-loop μ-loop
-returns c =
-    standing-whole _ _ _ _ _ _ _ _ (c .before .before .before .before .before .loop .inv) (c .before .before .before .before .loop-test .left) _ _ (c .before .before .copy-head .ensures) refl
+returns c = search (needs, standing-whole)
 
 pub build-spec : {M : Type 1} → statement M
 build-spec =
@@ -215,29 +130,23 @@ build-spec =
     Inv-loop
     μ-loop
     loop-holds
-    shared-slice-read-kind
-    add-wide
-    shared-slice-read-wide
-    wide-requires
+    entry-at-requires
+    enum-known-g
     add-end
-    mul-end
-    add-end-2
     add-load
     add-load-2
-    add-load-3
     sub-load
     part-load-start
     part-load-end
-    add-load-4
     sub-load-2
     part-load-start-2
     part-load-end-2
     load-requires
     array-write-kinds
     add-parts
-    add-size
     loop-less
     loop-again
+    enum-known-kind
     sub-older
     array-read-runs-across
     runs-across-requires
@@ -247,7 +156,6 @@ build-spec =
     join-requires
     array-write-kinds-2
     sub-parts
-    add-at
     loop-less-2
     loop-again-2
     copy-head-requires

@@ -1,7 +1,8 @@
 -- `report::lines::write_best` meets its contract.
--- The three fields are appended in turn, by `best-line`.
+-- The three fields fit where the line fits, and appended in turn they are it, by `best-line`.
+use native.Mathlib.Omega.{arith}
 use borrow.Author.Needs.{needs}
-use Rattle.report.proofs.LineLaws.{best-line}
+use Rattle.report.proofs.LineLaws.{best-length, best-line}
 use Rattle.report.proofs.lines.write_best.Statement.{statement}
 use Rattle.report.proofs.lines.write_best.Tie as tie
 
@@ -9,13 +10,22 @@ slice-aggregate-write-named : tie.Need-slice-aggregate-write-named
 slice-aggregate-write-named c = search needs
 
 write-named-requires : tie.Need-write-named-requires
-write-named-requires c κs = search needs
+write-named-requires c κs =
+    let a = c .before .before .before .args in
+    omega (arith, best-length (a .height) (a .width) (a .area))
 
 write-field-requires : tie.Need-write-field-requires
-write-field-requires c κs = search needs
+write-field-requires c κs =
+    let first = c .before .before .before .before in
+    let a = first .before .before .before .args in
+    omega (arith, best-length (a .height) (a .width) (a .area))
 
 write-field-requires-2 : tie.Need-write-field-requires-2
-write-field-requires-2 c κs = search needs
+write-field-requires-2 c κs =
+    let second = c .before .before .before .before in
+    let first = second .before .before .before .before in
+    let a = first .before .before .before .args in
+    omega (arith, best-length (a .height) (a .width) (a .area))
 
 same-length : tie.Need-same-length
 same-length c = search needs

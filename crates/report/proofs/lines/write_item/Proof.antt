@@ -1,15 +1,21 @@
 -- `report::lines::write_item` meets its contract.
--- The two fields are appended in turn, by `item-line`.
+-- The two fields fit where the line fits, and appended in turn they are it, by `item-line`.
+use native.Mathlib.Omega.{arith}
 use borrow.Author.Needs.{needs}
-use Rattle.report.proofs.LineLaws.{item-line}
+use Rattle.report.proofs.LineLaws.{item-length, item-line}
 use Rattle.report.proofs.lines.write_item.Statement.{statement}
 use Rattle.report.proofs.lines.write_item.Tie as tie
 
 write-field-requires : tie.Need-write-field-requires
-write-field-requires c κs = search needs
+write-field-requires c κs =
+    let a = c .before .before .args in
+    omega (arith, item-length (a .height) (a .width))
 
 write-field-requires-2 : tie.Need-write-field-requires-2
-write-field-requires-2 c κs = search needs
+write-field-requires-2 c κs =
+    let first = c .before .before .before .before in
+    let a = first .before .before .args in
+    omega (arith, item-length (a .height) (a .width))
 
 same-length : tie.Need-same-length
 same-length c = search needs

@@ -1,9 +1,27 @@
 -- `report::render::render` meets its contract.
--- The four parts are appended in turn from the buffer's start, and are the text by `faces-printed`.
+-- The text takes at most `textBytes`, so each of its four parts fits; appended in turn from the buffer's start they are the text by `faces-printed`.
+use native.Mathlib.Omega.{arith}
 use borrow.Author.Needs.{needs}
-use Rattle.report.proofs.Faces.{faces-printed}
+use Rattle.report.proofs.Bounds.{Renderable, parts-fit}
+use Rattle.report.proofs.Faces.{parts-appended, faces-printed}
 use Rattle.report.proofs.render.render.Statement.{statement}
 use Rattle.report.proofs.render.render.Tie as tie
+
+abbrev Given : tie.Start → Type 0
+Given c =
+    Renderable (c .args .items .now) (c .args .height) (c .args .width) (c .args .area) (c .args .layout .now) (c .args .text .now)
+
+-- What is known at the entry.
+given : (c : tie.After-slice-known) → Given (c .before .before .before)
+given c =
+    record {
+      items-fit = λ i. omega (arith, c .before .before .shared-slice-known .given i);
+      high = omega arith;
+      wide = omega arith;
+      large = omega arith;
+      layout-fits = λ i. omega (arith, c .before .shared-slice-known2 .given i);
+      asked = c .before .before .before .pre;
+    }
 
 cast-count : tie.Need-cast-count
 cast-count c = search needs
@@ -12,27 +30,37 @@ slice-aggregate-write-named : tie.Need-slice-aggregate-write-named
 slice-aggregate-write-named c = search needs
 
 write-named-requires : tie.Need-write-named-requires
-write-named-requires c κs = search needs
+write-named-requires c κs = omega (arith, parts-fit _ _ _ _ _ _ (given (c .before .before)))
 
 write-items-requires : tie.Need-write-items-requires
-write-items-requires c κs = search needs
+write-items-requires c κs =
+    let named = c .before .before .before in
+    omega (arith, parts-fit _ _ _ _ _ _ (given (named .before .before .before)))
 
 write-best-requires : tie.Need-write-best-requires
-write-best-requires c κs = search needs
+write-best-requires c κs =
+    let listed = c .before .before .before in
+    let named = listed .before .before .before .before in
+    omega (arith, parts-fit _ _ _ _ _ _ (given (named .before .before .before)))
 
 write-gauges-requires : tie.Need-write-gauges-requires
-write-gauges-requires c κs = search needs
+write-gauges-requires c κs =
+    let chosen = c .before .before .before in
+    let listed = chosen .before .before .before .before in
+    let named = listed .before .before .before .before in
+    let k = given (named .before .before .before) in
+    (k .asked .1, omega (arith, parts-fit _ _ _ _ _ _ k))
 
 same-length : tie.Need-same-length
 same-length c = search needs
 
 returns : tie.Need-returns
 returns c =
-    let at-write-best = c .before .before .before .before .before .before in
-    let at-write-items = at-write-best .before .before .before .before in
-    let at-write-named = at-write-items .before .before .before .before in
-    let entry = at-write-named .before .before .before .before .before .before in
-    faces-printed _ _ _ _ _ _ _ _ _ _ _ _ _ _ (at-write-named .write-named .ensures) (at-write-items .write-items .ensures) (at-write-best .write-best .ensures) (c .before .before .write-gauges .ensures) (entry .pre)
+    let chosen = c .before .before .before .before .before .before in
+    let listed = chosen .before .before .before .before in
+    let named = listed .before .before .before .before in
+    let whole = parts-appended _ _ _ _ _ _ _ _ _ _ _ _ _ _ (named .write-named .ensures) (listed .write-items .ensures) (chosen .write-best .ensures) (c .before .before .write-gauges .ensures) in
+    faces-printed _ _ _ _ _ _ _ _ whole (given (named .before .before .before))
 
 pub render-spec : {M : Type 1} → statement M
 render-spec =

@@ -3,7 +3,7 @@
 use mathlib.Core.Path.{refl}
 use native.Mathlib.Omega.{arith}
 use borrow.Author.Needs.{needs}
-use Rattle.shapes.proofs.ListCall.{list-file, list-counts, list-lent, list-writable, list-done}
+use Rattle.shapes.proofs.ListCall.{list-file, list-counts, list-asked, list-writable, list-done}
 use Rattle.shapes.proofs.listing.list.Statement.{statement}
 use Rattle.shapes.proofs.listing.list.Tie as tie
 
@@ -19,8 +19,8 @@ returns c =
     let start = at-read .before .before .before .before .before .before in
     list-file (start .args .file .now) (start .args .levels .now) (start .args .arena .now) (start .args .scratch .now) (start .args .output .now) _ (at-read .read .ensures) (c .before .if1 .taken) _ (c .refused .ensures)
 
-lent-number-requires : tie.Need-lent-number-requires
-lent-number-requires c κs =
+asked-number-requires : tie.Need-asked-number-requires
+asked-number-requires c κs =
     let start = c .before .before .before .before .before .before .before .before in
     list-counts (start .args .file .now) (start .args .levels .now) (start .args .arena .now) (start .args .scratch .now) (start .args .output .now) _ (c .before .before .read .ensures) (c .if1 .left)
 
@@ -32,15 +32,15 @@ returns-2 c =
     let at-if1 = c .before .before .before in
     let at-read = at-if1 .before .before in
     let start = at-read .before .before .before .before .before .before in
-    list-lent (start .args .file .now) (start .args .levels .now) (start .args .arena .now) (start .args .scratch .now) (start .args .output .now) _ (at-read .read .ensures) (at-if1 .if1 .left) _ (c .before .before .lent-number .ensures) (λ e. let t = c .before .if2 .taken in omega arith) _ (c .refused2 .ensures)
+    list-asked (start .args .file .now) (start .args .levels .now) (start .args .arena .now) (start .args .scratch .now) (start .args .output .now) _ (at-read .read .ensures) (at-if1 .if1 .left) _ (c .before .before .asked-number .ensures) (λ e. let t = c .before .if2 .taken in omega arith) _ (c .refused2 .ensures)
 
 write-list-requires : tie.Need-write-list-requires
 write-list-requires c κs =
-    let at-lent-number = c .before .before .before in
-    let at-if1 = at-lent-number .before in
+    let at-asked-number = c .before .before .before in
+    let at-if1 = at-asked-number .before in
     let at-read = at-if1 .before .before in
     let start = at-read .before .before .before .before .before .before in
-    list-writable (start .args .file .now) (start .args .levels .now) (start .args .arena .now) (start .args .scratch .now) (start .args .output .now) _ (at-read .read .ensures) (at-if1 .if1 .left) _ (at-lent-number .lent-number .ensures) (let t = c .before .before .if2 .left in omega arith)
+    list-writable (start .args .file .now) (start .args .levels .now) (start .args .arena .now) (start .args .scratch .now) (start .args .output .now) _ (at-read .read .ensures) (at-if1 .if1 .left) _ (at-asked-number .asked-number .ensures) (let t = c .before .before .if2 .left in omega arith)
 
 same-length : tie.Need-same-length
 same-length c = search needs
@@ -52,11 +52,11 @@ returns-3 : tie.Need-returns-3
 returns-3 c =
     let at-write-list = c .before .before .before .before in
     let at-if2 = at-write-list .before .before .before in
-    let at-lent-number = at-if2 .before in
-    let at-if1 = at-lent-number .before in
+    let at-asked-number = at-if2 .before in
+    let at-if1 = at-asked-number .before in
     let at-read = at-if1 .before .before in
     let start = at-read .before .before .before .before .before .before in
-    list-done (start .args .file .now) (start .args .levels .now) (start .args .arena .now) (start .args .scratch .now) (start .args .output .now) _ (at-read .read .ensures) (at-if1 .if1 .left) _ (at-lent-number .lent-number .ensures) (let t = at-if2 .if2 .left in omega arith) _ _ _ _ _ (at-write-list .write-list .ensures) refl
+    list-done (start .args .file .now) (start .args .levels .now) (start .args .arena .now) (start .args .scratch .now) (start .args .output .now) _ (at-read .read .ensures) (at-if1 .if1 .left) _ (at-asked-number .asked-number .ensures) (let t = at-if2 .if2 .left in omega arith) _ _ _ _ _ (at-write-list .write-list .ensures) refl
 
 pub list-spec : {M : Type 1} → statement M
 list-spec =
@@ -65,7 +65,7 @@ list-spec =
     read-requires
     refused-requires
     returns
-    lent-number-requires
+    asked-number-requires
     refused-requires-2
     returns-2
     write-list-requires

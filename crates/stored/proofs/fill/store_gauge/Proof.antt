@@ -8,6 +8,9 @@ use Rattle.stored.proofs.fill.store_gauge.Tie as tie
 store-sizes-requires : tie.Need-store-sizes-requires
 store-sizes-requires c κs = search needs
 
+cast-store-entry : tie.Need-cast-store-entry
+cast-store-entry c = search needs
+
 store-entry-requires : tie.Need-store-entry-requires
 store-entry-requires c κs = search needs
 
@@ -22,4 +25,4 @@ returns c =
 
 pub store-gauge-spec : {M : Type 1} → statement M
 store-gauge-spec =
-    tie.close (tie.spec store-sizes-requires store-entry-requires same-length returns)
+    tie.close (tie.spec store-sizes-requires cast-store-entry store-entry-requires same-length returns)

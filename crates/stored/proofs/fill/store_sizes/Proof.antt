@@ -13,64 +13,37 @@ abbrev μ-loop : tie.MeasureT-loop
 μ-loop scratch₀ to bytes count k₀ scratch k = count - k
 
 loop-holds : tie.Need-loop-holds Inv-loop μ-loop
-loop-holds c =
-    search (needs, packing-start)
+loop-holds c = search (needs, packing-start)
 
-mul-field : tie.Need-mul-field Inv-loop μ-loop
-mul-field c =
-    search needs
-
-field-requires : tie.Need-field-requires Inv-loop μ-loop
-field-requires c κs =
-    search needs
-
-mul-field-2 : tie.Need-mul-field-2 Inv-loop μ-loop
-mul-field-2 c =
-    search needs
-
-add-field : tie.Need-add-field Inv-loop μ-loop
-add-field c =
-    search needs
-
-field-requires-2 : tie.Need-field-requires-2 Inv-loop μ-loop
-field-requires-2 c κs =
-    search needs
+size-in-requires : tie.Need-size-in-requires Inv-loop μ-loop
+size-in-requires c κs = search needs
 
 packed-requires : tie.Need-packed-requires Inv-loop μ-loop
-packed-requires c κs =
-    (c .before .field .ensures .1, c .field2 .ensures .1)
+packed-requires c κs = search needs
 
 add-scratch : tie.Need-add-scratch Inv-loop μ-loop
-add-scratch c =
-    search needs
+add-scratch c = search needs
 
 mul-scratch : tie.Need-mul-scratch Inv-loop μ-loop
-mul-scratch c =
-    search needs
+mul-scratch c = search needs
 
 slice-write-scratch : tie.Need-slice-write-scratch Inv-loop μ-loop
-slice-write-scratch c =
-    packing-room _ _ _ _ _ _ (c .before .before .before .before .loop .inv) (c .before .before .before .loop-test .taken) (c .before .before .before .before .before .before .before .pre .1)
+slice-write-scratch c = search (needs, packing-room)
 
 add-k : tie.Need-add-k Inv-loop μ-loop
-add-k c =
-    search needs
+add-k c = search needs
 
 loop-less : tie.Need-loop-less Inv-loop μ-loop
-loop-less c =
-    search needs
+loop-less c = search needs
 
 loop-again : tie.Need-loop-again Inv-loop μ-loop
-loop-again c =
-    packing-more _ _ _ _ _ _ (c .before .before .before .before .loop .inv) (c .before .before .before .loop-test .taken) (c .before .before .before .before .before .before .before .pre .1) _ _ _ (c .before .before .field .ensures) (c .before .field2 .ensures) (c .packed .ensures)
+loop-again c = search (needs, packing-more)
 
 same-length : tie.Need-same-length Inv-loop μ-loop
-same-length c =
-    search needs
+same-length c = search needs
 
 returns : tie.Need-returns Inv-loop μ-loop
-returns c =
-    packing-done _ _ _ _ _ _ (c .before .loop .inv) (c .loop-test .left)
+returns c = packing-done _ _ _ _ _ _ (c .before .loop .inv) (c .loop-test .left)
 
 pub store-sizes-spec : {M : Type 1} → statement M
 store-sizes-spec =
@@ -79,11 +52,7 @@ store-sizes-spec =
     Inv-loop
     μ-loop
     loop-holds
-    mul-field
-    field-requires
-    mul-field-2
-    add-field
-    field-requires-2
+    size-in-requires
     packed-requires
     add-scratch
     mul-scratch

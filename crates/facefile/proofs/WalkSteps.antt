@@ -1,0 +1,259 @@
+-- The walk over the entries of a taken file: where it begins, what the bytes at a place of it say, and where it goes on.
+-- The reading took the entry at the place, so it is what the bytes there say, and what is left after it still gives the face.
+use mathlib.Core.Path.{_≡_, refl, sym, ap, ap₂, subst, _∙_}
+use mathlib.Core.List.{List, [], _∷_, cons≢nil}
+use Prim.Native.Nat.{ℕ, zero, suc, _+_, _-_, _*_, _≤_, _<_}
+use native.Mathlib.Nat.{add-zero}
+use native.Mathlib.Omega.{arith}
+use lib.ListN.{length, getD, take, drop, length-drop, drop-of-length-le}
+use lib.Seq.{drop-drop, getD-drop, getD-take, length-take-le}
+use Rattle.checks.specs.Answer.{Answer, taken, next}
+use Rattle.checks.proofs.Answers.{same-taken, next-taken}
+use Rattle.slicing.specs.Item.{Item}
+use Rattle.slicing.specs.Tree.{Tree, gauge}
+use Rattle.facefile.specs.declared.walk.GaugeEntry.{GaugeEntry}
+use Rattle.facefile.specs.declared.walk.Entry.{Entry}
+use Rattle.facefile.specs.declared.walk.Entry.the-variants.{Gauge, Join}
+use Rattle.facefile.specs.Format.{State, start, entry, entries, atEnd, faceOf, header}
+use Rattle.facefile.specs.Kinds.{Cut, cut-beside, cut-stacked}
+use Rattle.facefile.specs.Sizes.{sizesIn}
+use Rattle.facefile.specs.Walk.{firstEntry, stateAt, Walk, sizeBytesOf, GaugeAt, JoinAt, EntryAt, Finds}
+use Rattle.facefile.proofs.Took.{state, Took, took-gauge, took-join, entry-took, Reads, reads-none, reads-more}
+use Rattle.facefile.proofs.SizesIn.{from-in, in-same}
+use Rattle.facefile.proofs.Taken.{header-taken, end-taken, end-read}
+
+pub walk-start : (file : List ℕ) (t : Tree) → faceOf file ≡ taken t → Walk file t firstEntry []
+unfolding faceOf entries
+walk-start file t e =
+    let head = next-taken (header file) (λ count. next (entries count (start file)) atEnd) t e in
+    record {
+      taken-file = e;
+      inside = header-taken file (head .0) (head .1) .0 .long;
+      gauges = 0;
+      done = 0;
+      read = refl;
+      left = head .0;
+      gives = head .2;
+    }
+
+-- What stands at a place of a list and after it, from what is left there.
+module _ (file : List ℕ) (at : ℕ) where
+  at-place : (x : ℕ) (l : List ℕ) → drop at file ≡ x ∷ l → getD file at 0 ≡ x
+  at-place x l e = ap (λ (n : ℕ). getD file n 0) (sym (add-zero at)) ∙ sym (getD-drop at file 0 0) ∙ ap (λ (r : List ℕ). getD r 0 0) e
+
+  past-place : (k : ℕ) (l : List ℕ) → drop at file ≡ l → drop (at + k) file ≡ drop k l
+  past-place k l e = sym (drop-drop k at file) ∙ ap (drop k) e
+
+  left-at : (l : List ℕ) → drop at file ≡ l → length file - at ≡ length l
+  left-at l e = sym (length-drop at file) ∙ ap length e
+
+-- The gauge entry at a place with so many sizes, as its bytes say.
+abbrev pub gaugeEntryAt : ℕ → ℕ → GaugeEntry
+gaugeEntryAt at n = record { from = at + 2; to = at + 2 + 4 * n; count = n; next = at + 2 + 4 * n }
+
+-- A gauge was taken at the place.
+record TookGauge (file : List ℕ) (at n : ℕ) (s u : State) : Type 0 where
+  few : n ≤ 8
+  fits : at + 2 + 4 * n ≤ length file
+  after : u ≡ stateAt file (at + 2 + 4 * n) (gauge (sizesIn n (drop (at + 2) file)) ∷ s .stack) (s .gauges + 1)
+
+-- A join was taken at the place.
+record TookJoin (file : List ℕ) (at : ℕ) (s u : State) : Type 0 where
+  cut : Tree → Tree → Tree
+  older : Tree
+  newer : Tree
+  rest : List Tree
+  is-cut : Cut (getD file at 0) cut
+  two : s .stack ≡ newer ∷ older ∷ rest
+  after : u ≡ stateAt file (at + 1) (cut older newer ∷ rest) (s .gauges)
+
+not-gauge : (kind : ℕ) (cut : Tree → Tree → Tree) → Cut kind cut → kind ≡ 0x01 → ⊥
+not-gauge kind cut cut-beside e = omega arith
+not-gauge kind cut cut-stacked e = omega arith
+
+module _ (file : List ℕ) (at : ℕ) where
+  gauge-read : (n : ℕ) (s u : State) → Took s u → drop at file ≡ s .rest → at < length file → getD file at 0 ≡ 0x01 → n ≡ getD file (at + 1) 0 → TookGauge file at n s u
+  gauge-read n s u (took-gauge count bytes parts g z few some most present sized) here more e counted =
+      let long = left-at file at (0x01 ∷ count ∷ bytes) here in
+      let past : drop (at + 2) file ≡ bytes = past-place file at 2 (0x01 ∷ count ∷ bytes) here in
+      let same : n ≡ count = counted ∙ at-place file (at + 1) count bytes (past-place file at 1 (0x01 ∷ count ∷ bytes) here) in
+      record {
+        few = omega arith;
+        fits = omega arith;
+        after =
+            ap₂ (λ (r : List ℕ) (l : List Item). state r (gauge l ∷ parts) (g + 1))
+            (sym (ap (λ (k : ℕ). drop (at + 2 + 4 * k) file) same ∙ past-place file (at + 2) (4 * count) bytes past))
+            (from-in count bytes z sized ∙ sym (ap₂ sizesIn same past));
+      }
+  gauge-read n s u (took-join kind cut bytes a b parts g c) here more e counted =
+      absurd (not-gauge kind cut c (sym (at-place file at kind bytes here) ∙ e))
+
+  join-read : (s u : State) → Took s u → drop at file ≡ s .rest → (getD file at 0 ≡ 0x01 → ⊥) → TookJoin file at s u
+  join-read s u (took-gauge count bytes parts g z few some most present sized) here e =
+      absurd (e (at-place file at 0x01 (count ∷ bytes) here))
+  join-read s u (took-join kind cut bytes a b parts g c) here e =
+      record {
+        cut = cut;
+        older = a;
+        newer = b;
+        rest = parts;
+        is-cut = rw (at-place file at kind bytes here) c;
+        two = refl;
+        after = ap (λ (r : List ℕ). state r (cut a b ∷ parts) g) (sym (past-place file at 1 (kind ∷ bytes) here));
+      }
+
+-- The sizes of a gauge are those of their own bytes.
+module _ (file : List ℕ) (from n : ℕ) (fits : from + 4 * n ≤ length file) where
+  abbrev bytes : List ℕ
+  bytes = take (from + 4 * n - from) (drop from file)
+
+  bytes-long : length bytes ≡ 4 * n
+  bytes-long =
+      let left = length-drop from file in
+      length-take-le (from + 4 * n - from) (drop from file) (omega arith) ∙ omega arith
+
+  bytes-sizes : sizesIn n (drop from file) ≡ sizesIn n bytes
+  bytes-sizes =
+      in-same n (drop from file) bytes
+      (λ i less. sym (getD-take (from + 4 * n - from) (drop from file) i 0 (omega arith)))
+
+-- One entry more after a run of entries.
+entries-more : (k : ℕ) (s t u : State) → entries k s ≡ taken t → entry t ≡ taken u → entries (suc k) s ≡ taken u
+unfolding entries
+entries-more zero s t u e f =
+    ap (λ (x : State). next (entry x) (entries zero)) (same-taken s t e) ∙ ap (λ (a : Answer State). next a (entries zero)) f
+entries-more (suc k) s t u e f =
+    let first = next-taken (entry s) (entries k) t e in
+    ap (λ (a : Answer State). next a (entries (suc k))) (first .1) ∙ entries-more k (first .0) t u (first .2) f
+
+-- The next entry is taken, and what is left after it gives the face.
+record Taking (face : Tree) (s : State) : Type 0 where
+  after : State
+  takes : entry s ≡ taken after
+  left : ℕ
+  gives : next (entries left after) atEnd ≡ taken face
+
+taking : (k : ℕ) (face : Tree) (s : State) → next (entries k s) atEnd ≡ taken face → (s .rest ≡ [] → ⊥) → Taking face s
+unfolding entries atEnd
+taking zero face s e some = absurd (some (end-taken (s .stack) (s .rest) face e .1))
+taking (suc k) face s e some =
+    let all = next-taken (next (entry s) (entries k)) atEnd face e in
+    let first = next-taken (entry s) (entries k) (all .0) (all .1) in
+    record {
+      after = first .0;
+      takes = first .1;
+      left = k;
+      gives = ap (λ (a : Answer State). next a atEnd) (first .2) ∙ all .2;
+    }
+
+-- The entry at the place of a walk, and the walk behind it.
+module _ (file : List ℕ) (face : Tree) (at : ℕ) (stack : List Tree) (w : Walk file face at stack) where
+  abbrev here : State
+  here = stateAt file at stack (w .gauges)
+
+  module _ (more : at < length file) where
+    taken-here : Taking face here
+    taken-here =
+        taking (w .left) face here (w .gives) (λ e. let long = left-at file at [] e in absurd (omega arith))
+
+    took-here : Took here (taken-here .after)
+    took-here = entry-took (drop at file) stack (w .gauges) (taken-here .after) (taken-here .takes)
+
+    walk-behind : (place : ℕ) (parts : List Tree) (g : ℕ) → taken-here .after ≡ stateAt file place parts g → place ≤ length file → Walk file face place parts
+    walk-behind place parts g e inside =
+        record {
+          taken-file = w .taken-file;
+          inside = inside;
+          gauges = g;
+          done = suc (w .done);
+          read = entries-more (w .done) (start file) here (stateAt file place parts g) (w .read) (taken-here .takes ∙ ap taken e);
+          left = taken-here .left;
+          gives = subst (λ (s : State). next (entries (taken-here .left) s) atEnd ≡ taken face) e (taken-here .gives);
+        }
+
+    gauge-here : (n : ℕ) → getD file at 0 ≡ 0x01 → n ≡ getD file (at + 1) 0 → GaugeAt file face at stack (gaugeEntryAt at n)
+    gauge-here n e counted =
+        let r = gauge-read file at n here (taken-here .after) took-here refl more e counted in
+        record {
+          upward = omega arith;
+          inside = r .fits;
+          sized = bytes-long file (at + 2) n (r .fits);
+          few = r .few;
+          further = omega arith;
+          walk =
+              walk-behind (at + 2 + 4 * n) (gauge (sizesIn n (sizeBytesOf file (gaugeEntryAt at n))) ∷ stack) (w .gauges + 1)
+              (r .after
+              ∙ ap (λ (l : List Item). stateAt file (at + 2 + 4 * n) (gauge l ∷ stack) (w .gauges + 1)) (bytes-sizes file (at + 2) n (r .fits)))
+              (r .fits);
+        }
+
+    join-here : (getD file at 0 ≡ 0x01 → ⊥) → JoinAt file face at stack (getD file at 0) (at + 1)
+    join-here e =
+        let r = join-read file at here (taken-here .after) took-here refl e in
+        record {
+          cut = r .cut;
+          older = r .older;
+          newer = r .newer;
+          rest = r .rest;
+          is-cut = r .is-cut;
+          two = r .two;
+          further = omega arith;
+          walk = walk-behind (at + 1) (r .cut (r .older) (r .newer) ∷ r .rest) (w .gauges) (r .after) (omega arith);
+        }
+
+  -- The entries that are left.
+  pub walk-reads : (last : ℕ) × Reads (w .left) here (state [] (face ∷ []) last)
+  walk-reads = end-read (w .left) here face (w .gives)
+
+-- What the bytes at a place say is what every walk finds there.
+module _ (file : List ℕ) (at : ℕ) where
+  pub finds-gauge : (n : ℕ) → at < length file → getD file at 0 ≡ 0x01 → n ≡ getD file (at + 1) 0 → Finds file at (Gauge (gaugeEntryAt at n))
+  unfolding Finds
+  finds-gauge n more e counted face stack w = gauge-here file face at stack w more n e counted
+
+  pub finds-join : at < length file → (getD file at 0 ≡ 0x01 → ⊥) → Finds file at (Join (getD file at 0) (at + 1))
+  unfolding Finds
+  finds-join more e face stack w = join-here file face at stack w more e
+
+  -- A gauge has its count byte.
+  pub count-inside : ((t : Tree) × (stack : List Tree) × Walk file t at stack) × (at < length file) → getD file at 0 ≡ 0x01 → at + 1 < length file
+  count-inside w e =
+      let inside = gauge-here file (w .0 .0) at (w .0 .1) (w .0 .2) (w .1) (getD file (at + 1) 0) e refl .inside in omega arith
+
+-- The entry that was found at the place of a walk.
+module _ (file : List ℕ) (face : Tree) (at : ℕ) (stack : List Tree) (w : Walk file face at stack) (r : Entry) (found : Finds file at r) where
+  pub found-gauge : (g : GaugeEntry) → r ≡ Gauge g → GaugeAt file face at stack g
+  unfolding Finds
+  found-gauge g e = subst (λ (x : Entry). EntryAt file face at stack x) e (found face stack w)
+
+  pub found-join : (kind behind : ℕ) → r ≡ Join kind behind → JoinAt file face at stack kind behind
+  unfolding Finds
+  found-join kind behind e = subst (λ (x : Entry). EntryAt file face at stack x) e (found face stack w)
+
+  -- Its sizes are a part of the file.
+  pub gauge-upward : (g : GaugeEntry) → r ≡ Gauge g → g .from ≤ g .to
+  gauge-upward g e = found-gauge g e .upward
+
+  pub gauge-inside : (g : GaugeEntry) → r ≡ Gauge g → g .to ≤ length file
+  gauge-inside g e = found-gauge g e .inside
+
+  -- Fewer bytes are left behind it.
+  pub gauge-less : (g : GaugeEntry) → r ≡ Gauge g → at < length file → length file - g .next < length file - at
+  gauge-less g e more = let further = found-gauge g e .further in omega arith
+
+  pub join-less : (kind behind : ℕ) → r ≡ Join kind behind → at < length file → length file - behind < length file - at
+  join-less kind behind e more = let further = found-join kind behind e .further in omega arith
+
+no-took : (s u : State) → Took s u → s .rest ≡ [] → ⊥
+no-took s u (took-gauge count bytes parts g z few some most present sized) e = cons≢nil e
+no-took s u (took-join kind cut bytes a b parts g c) e = cons≢nil e
+
+no-entry : (k : ℕ) (s f : State) → Reads k s f → s .rest ≡ [] → s .stack ≡ f .stack
+no-entry k s f (reads-none x) e = refl
+no-entry k s f (reads-more j x u y first rest) e = absurd (no-took s u first e)
+
+-- At the end of the file the face is the one part on the stack.
+pub walk-end : (file : List ℕ) (face : Tree) (at : ℕ) (stack : List Tree) → Walk file face at stack → length file ≤ at → stack ≡ face ∷ []
+walk-end file face at stack w h =
+    let left = walk-reads file face at stack w in
+    no-entry (w .left) (stateAt file at stack (w .gauges)) (state [] (face ∷ []) (left .0)) (left .1) (drop-of-length-le file h)

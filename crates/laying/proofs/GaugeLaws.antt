@@ -1,0 +1,94 @@
+-- A stored part that can be laid out, and the layout of a gauge: its five words.
+-- The word read is that of the gauge's own size, whose number is its place in the list, and five stores leave the words after them.
+use mathlib.Core.Path.{_≡_, refl, sym, ap, _∙_}
+use mathlib.Core.List.{List, [], _∷_}
+use Prim.Native.Nat.{ℕ, _+_, _*_, _/_, _%_, _^_, _≤_, _<_}
+use native.Mathlib.Omega.{arith}
+use lib.ListN.{length, getD, set, drop}
+use Rattle.slicing.specs.Item.{size, height, width}
+use Rattle.slicing.specs.Tree.{Tree, gauge, beside, stacked, gaugeCount}
+use Rattle.slicing.specs.Good.{Good}
+use Rattle.slicing.specs.Shapes.{shapes}
+use Rattle.slicing.specs.Fit.{place}
+use Rattle.stored.specs.Packed.{pack}
+use Rattle.stored.specs.Store.{Stored}
+use Rattle.stored.proofs.StoredLists.{m-is, p-is}
+use Rattle.laying.specs.Laying.{shapeAt, Layable, laid}
+use Rattle.laying.proofs.OrderLaws.{index-at}
+use Rattle.laying.proofs.StretchLaws.{table-inside}
+use Rattle.laying.proofs.ShapeReading.{Place, shape-low}
+
+-- The word of the item at the place of the part's list.
+abbrev pub Word : List ℕ → ℕ → ℕ → ℕ → Type 0
+Word s part k z = (t : Tree) → Stored s part t → k < length (shapes 0 t) → z ≡ pack (shapeAt t k)
+
+-- Some part that can be laid out.
+abbrev pub Ready : List ℕ → ℕ → ℕ → ℕ → ℕ → ℕ → List ℕ → Type 0
+Ready s part gauges k x y out = (t : Tree) × Layable s part t gauges k x y out
+
+-- Any such part, laid out, leaves the output as `last`.
+abbrev pub Lays : List ℕ → ℕ → ℕ → ℕ → ℕ → ℕ → List ℕ → List ℕ → Type 0
+Lays s part gauges k x y out last = (t : Tree) → Layable s part t gauges k x y out → last ≡ laid t k x y out
+
+-- The stores of a gauge's five words, and its words.
+five-words : (out : List ℕ) (a b c d e : ℕ) → 5 ≤ length out → set (set (set (set (set out 0 a) 1 b) 2 c) 3 d) 4 e ≡ a ∷ b ∷ c ∷ d ∷ e ∷ drop 5 out
+five-words (v ∷ w ∷ x ∷ y ∷ z ∷ out) a b c d e h = refl
+five-words (v ∷ w ∷ x ∷ y ∷ []) a b c d e h = absurd (omega arith)
+five-words (v ∷ w ∷ x ∷ []) a b c d e h = absurd (omega arith)
+five-words (v ∷ w ∷ []) a b c d e h = absurd (omega arith)
+five-words (v ∷ []) a b c d e h = absurd (omega arith)
+five-words [] a b c d e h = absurd (omega arith)
+
+pub gauge-words : (out : List ℕ) (n x y z w h : ℕ) → 5 ≤ length out → w ≡ z % 65_536 → h ≡ z / 65_536 → set (set (set (set (set out 0 n) 1 x) 2 y) 3 w) 4 h ≡ n ∷ x ∷ y ∷ (z % 65_536) ∷ (z / 65_536) ∷ drop 5 out
+gauge-words out n x y z w h room e f = five-words out n x y w h room ∙ rw (e, f)
+
+module _ {s : List ℕ} {part gauges k x y : ℕ} {out : List ℕ} where
+  pub ready-inside : Ready s part gauges k x y out → 4 * part + 3 < length s
+  ready-inside pre = table-inside s part (pre .0) (pre .1 .stored)
+
+  pub ready-item : Ready s part gauges k x y out → Place s part k
+  ready-item pre = (pre .0, pre .1 .stored, pre .1 .in-list)
+
+  -- At a gauge, by the kind that is read of the table.
+  module _ {kind : ℕ} (kind-is : kind ≡ getD s (4 * part + 2) 0) (one : kind ≡ 1) where
+    gauge-fits : (t : Tree) → Layable s part t gauges k x y out → (5 ≤ length out) × (k + 1 < 2 ^ 32)
+    unfolding shapes
+    gauge-fits (gauge z) h =
+        let room = h .room in
+        let inside = h .in-list in
+        let few = h .good .few in (omega arith, omega arith)
+    gauge-fits (beside a b) h = let same = h .stored .0 .kind-is in absurd (omega arith)
+    gauge-fits (stacked a b) h = let same = h .stored .0 .kind-is in absurd (omega arith)
+
+    pub gauge-room : Ready s part gauges k x y out → (5 ≤ length out) × (k + 1 < 2 ^ 32)
+    gauge-room pre = gauge-fits (pre .0) (pre .1)
+
+    pub gauge-laid : {z : ℕ} {last : List ℕ} → Word s part k z → last ≡ (k + 1) ∷ x ∷ y ∷ (z % 65_536) ∷ (z / 65_536) ∷ drop 5 out → Lays s part gauges k x y out last
+    unfolding shapes laid place
+    gauge-laid {z} {last} word written (gauge sizes) h =
+        let item = getD sizes k (size 0 0) in
+        let low = shape-low s part k (gauge sizes) (h .stored) (h .in-list) in
+        let here = index-at sizes (h .good .ordered) k (h .in-list) in
+        let same-word = word (gauge sizes) (h .stored) (h .in-list) in
+        let m-same : z / 65_536 ≡ height item = m-is item z (z / 65_536) low same-word refl in
+        let p-same : z % 65_536 ≡ width item = p-is item z (z % 65_536) low same-word refl in
+        written
+        ∙ ap (λ (n : ℕ). (k + 1) ∷ x ∷ y ∷ n ∷ (z / 65_536) ∷ drop 5 out) p-same
+        ∙ ap (λ (n : ℕ). (k + 1) ∷ x ∷ y ∷ width item ∷ n ∷ drop 5 out) m-same
+        ∙ ap (λ (n : ℕ). (n + 1) ∷ x ∷ y ∷ width (getD sizes n (size 0 0)) ∷ height (getD sizes n (size 0 0)) ∷ drop 5 out) (sym here)
+    gauge-laid word written (beside a b) h = let same = h .stored .0 .kind-is in absurd (omega arith)
+    gauge-laid word written (stacked a b) h = let same = h .stored .0 .kind-is in absurd (omega arith)
+
+-- A whole face is laid out from 0, 0: its items are below 65,536.
+pub root-layable : (s : List ℕ) (part : ℕ) (t : Tree) (k : ℕ) (out : List ℕ) → Stored s part t → Good t → k < length (shapes 0 t) → 5 * gaugeCount t ≤ length out → Layable s part t (gaugeCount t) k 0 0 out
+root-layable s part t k out h good inside room =
+    let low = shape-low s part k t h inside in
+    record {
+      stored = h;
+      good = good;
+      gauges-is = refl;
+      in-list = inside;
+      room = room;
+      across = omega arith;
+      up = omega arith;
+    }

@@ -1,0 +1,46 @@
+-- What is read at a place of a stored part's list is the item at that place of the part's shape list by height.
+-- The part's stretch for a row is its list by height, and an item of it is below 65,536 both ways.
+use mathlib.Core.Path.{_≡_, refl, ap, subst, _∙_}
+use mathlib.Core.Bool.{false}
+use mathlib.Core.List.{List}
+use Prim.Native.Nat.{ℕ, _+_, _*_, _<_}
+use native.Mathlib.Omega.{arith}
+use lib.ListN.{length, getD}
+use Rattle.slicing.specs.Item.{Item, size}
+use Rattle.slicing.specs.Tree.{Tree}
+use Rattle.slicing.specs.Shapes.{shapes}
+use Rattle.stored.specs.Packed.{pack, ownShapes, HasList}
+use Rattle.stored.specs.Store.{Stored}
+use Rattle.stored.specs.Filling.{stretchOf}
+use Rattle.stored.specs.declared.merge.Stretch.{Stretch}
+use Rattle.stored.proofs.Reading.{ItemWord}
+use Rattle.stored.proofs.StoredLists.{Low, facing-low}
+use Rattle.stored.proofs.OwnLists.{own-length}
+use Rattle.laying.specs.Laying.{shapeAt}
+use Rattle.laying.proofs.StretchLaws.{stretch-ready, stretch-list, stretch-count, stretch-facing}
+
+-- A stored part, and a place of its shape list.
+abbrev pub Place : List ℕ → ℕ → ℕ → Type 0
+Place s part k = (t : Tree) × Stored s part t × (k < length (shapes 0 t))
+
+pub place-ready : (s : List ℕ) (part k : ℕ) → Place s part k → (4 * part + 3 < length s) × (getD s (4 * part + 2) 0 < 256)
+place-ready s part k pre = stretch-ready s part (pre .0) (pre .1)
+
+module _ (s : List ℕ) (part k : ℕ) (a : Stretch) (a-is : a ≡ stretchOf s part 0x02) where
+  pub can-read-shape : Place s part k → ((l : List Item) × HasList s (a .from) l × (a .count ≡ length l) × (k < a .count))
+  can-read-shape pre =
+      let t = pre .0 in
+      let inside = pre .2 in
+      let many = stretch-count s part false a a-is t (pre .1) in
+      (ownShapes t, stretch-list s part false a a-is t (pre .1), many, omega (arith, own-length t))
+
+  pub shape-read : (z : ℕ) → ItemWord s (a .from) (a .count) (a .across) k z → (t : Tree) → Stored s part t → k < length (shapes 0 t) → z ≡ pack (shapeAt t k)
+  shape-read z read t h inside =
+      read (ownShapes t) (stretch-list s part false a a-is t h) (stretch-count s part false a a-is t h)
+      ∙ ap (λ (l : List Item). pack (getD l k (size 0 0))) (stretch-facing s part false a a-is t h)
+
+pub shape-low : (s : List ℕ) (part k : ℕ) (t : Tree) → Stored s part t → k < length (shapes 0 t) → Low (shapeAt t k)
+shape-low s part k t h inside =
+    let a = stretchOf s part 0x02 in
+    subst (λ (l : List Item). Low (getD l k (size 0 0))) (stretch-facing s part false a refl t h)
+    (facing-low (a .across) s (a .from) (ownShapes t) (stretch-list s part false a refl t h) k (omega (arith, own-length t)))

@@ -1,0 +1,105 @@
+// The layout of a stored part, written gauge by gauge.
+ghost use mathlib.Core.Path.{_≡_};
+ghost use mathlib.Core.Bool.{cond};
+ghost use mathlib.Core.List.{_∷_};
+ghost use Prim.Native.Nat.{_+_, _/_, _%_, _^_, _≤_, _<_};
+ghost use lib.ListN.{length, drop};
+ghost use Rattle.slicing.specs.Tree.{Tree};
+ghost use Rattle.slicing.specs.Shapes.{shapes};
+ghost use Rattle.stored.specs.Packed.{pack};
+ghost use Rattle.stored.specs.Store.{Stored};
+ghost use Rattle.laying.specs.Laying.{shapeAt, movedBy, Layable, laid};
+use crate::take::take_item;
+use stored::fill::stretch;
+use stored::item::m_of;
+use stored::item::p_of;
+use stored::item::read_item;
+use stored::table::GAUGE;
+use stored::table::GAUGES;
+use stored::table::KIND;
+use stored::table::STACKED;
+use stored::table::part_word;
+
+// The item at a place of a part's shape list by height.
+pub fn item_at(scratch: &[u32], part: usize, place: usize) -> u32
+    requires { ⌜ ((t : Tree) × Stored (now scratch) part t × (place < length (shapes 0 t))) ⌝ }
+    ensures { λ r. ⌜ ((t : Tree) → Stored (now (scratch .entry)) part t → place < length (shapes 0 t) → r ≡ pack (shapeAt t place)) ⌝ }
+{
+    let list = stretch(scratch, part, facefile::BESIDE);
+    read_item(scratch, list.from, list.count, list.across, place)
+}
+
+// What a join limits: an item's height side by side, its width upward.
+fn along(z: u32, upward: bool) -> u32
+    ensures { λ r. ⌜ r ≡ cond upward (z % 65536) (z / 65536) ⌝ }
+{
+    if upward {
+        return p_of(z);
+    }
+    m_of(z)
+}
+
+// The right or upper part starts after the other.
+fn moved(at: u32, by: u32, goes: bool) -> u32
+    requires { ⌜ movedBy goes at by < 2 ^ 32 ⌝ }
+    ensures { λ r. ⌜ r ≡ movedBy goes at by ⌝ }
+{
+    if goes {
+        return at + by;
+    }
+    at
+}
+
+// The words of a gauge: the number of its size, across, up, width and height.
+fn write_gauge(out: &mut [u32], place: usize, x: u32, y: u32, size: u32)
+    requires { ⌜ (5 ≤ length (now out)) × (place + 1 < 2 ^ 32) ⌝ }
+    ensures { λ _. ⌜ now (out .exit) ≡ (place + 1) ∷ x ∷ y ∷ (size % 65536) ∷ (size / 65536) ∷ drop 5 (now (out .entry)) ⌝ }
+{
+    out[0] = (place + 1) as u32;
+    out[1] = x;
+    out[2] = y;
+    out[3] = p_of(size);
+    out[4] = m_of(size);
+}
+
+// Lays a part out with the item at a place of its shape list, its lower left corner at x, y: first the left or lower
+// part, then the other, down to the gauges. Each writes its own gauges' words only.
+pub fn lay(
+    scratch: &[u32],
+    part: usize,
+    gauges: usize,
+    place: usize,
+    x: u32,
+    y: u32,
+    out: &mut [u32],
+)
+    requires { ⌜ ((t : Tree) × Layable (now scratch) part t gauges place x y (now out)) ⌝ }
+    ensures { λ _. ⌜ ((t : Tree) → Layable (now (scratch .entry)) part t gauges place x y (now (out .entry)) → now (out .exit) ≡ laid t place x y (now (out .entry))) ⌝ }
+{
+    let kind = part_word(scratch, part, KIND);
+    let z = item_at(scratch, part, place);
+    if kind == GAUGE {
+        write_gauge(out, place, x, y, z);
+        return;
+    }
+    let upward = kind == STACKED;
+    let limit = along(z, upward);
+    let newer = part - 1;
+    let rest = part_word(scratch, newer, GAUGES);
+    let older = part - 2 * rest;
+    let first = gauges - rest;
+    let a = take_item(scratch, older, upward, limit);
+    let b = take_item(scratch, newer, upward, limit);
+    let right = moved(x, a.extent, !upward);
+    let above = moved(y, a.extent, upward);
+    lay(scratch, older, first, a.place, x, y, out);
+    lay(
+        scratch,
+        newer,
+        rest,
+        b.place,
+        right,
+        above,
+        &mut out[5 * first..],
+    );
+}

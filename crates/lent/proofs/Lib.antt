@@ -1,0 +1,3 @@
+pub mod LevelRange
+pub mod Asking
+pub mod Calling

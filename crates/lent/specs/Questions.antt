@@ -1,0 +1,40 @@
+-- Document 01, "The checks, as questions", from 14 to 18: what the calls on a face ask of what they are given and lent with it. A call's own definition says which of them it asks, in which order.
+use mathlib.Core.Bool.{Bool, true, _&&_}
+use mathlib.Core.List.{List, [], _∷_}
+use Prim.Native.Nat.{ℕ}
+use lib.Dec.{leb, eqb}
+use lib.ListN.{length}
+use Rattle.checks.specs.Check.{LevelCount, LevelRange, Opening, Buffers, Output}
+use Rattle.checks.specs.Limits.{mostOpening, bufferWords}
+use Rattle.checks.specs.Answer.{Asked, taken, ask, also}
+use Rattle.slicing.specs.Layout.{Outline}
+use Rattle.facefile.specs.Format.{within}
+
+-- "As many levels as sizes? 14." Of n sizes.
+unfoldable pub levelCount : ℕ → ℕ → Asked
+levelCount n levels = ask (eqb levels n) LevelCount (taken tt)
+
+-- "Each level 1 to 8?"
+abbrev pub levelsInRange : List ℕ → Bool
+levelsInRange [] = true
+levelsInRange (l ∷ levels) = leb 1 l && leb l 8 && levelsInRange levels
+
+-- "Each level 1 to 8? 15."
+unfoldable pub levelRange : List ℕ → Asked
+levelRange levels = ask (levelsInRange levels) LevelRange (taken tt)
+
+-- "As many levels as sizes? 14. Each level 1 to 8? 15."
+unfoldable pub levelsLent : ℕ → List ℕ → Asked
+levelsLent n levels = also (levelCount n (length levels)) (levelRange levels)
+
+-- "Opening height and width both 1 to 64,000? 16."
+unfoldable pub openingGiven : Outline → Asked
+openingGiven o = ask (within 1 mostOpening (o .height) && within 1 mostOpening (o .width)) Opening (taken tt)
+
+-- "Arena and scratch, each 16,384 32-bit words or more? 17."
+unfoldable pub buffersLent : (arena scratch : ℕ) → Asked
+buffersLent arena scratch = ask (leb bufferWords arena && leb bufferWords scratch) Buffers (taken tt)
+
+-- "Output long enough? 18." Each call says how many words it needs.
+unfoldable pub outputLent : (need output : ℕ) → Asked
+outputLent need output = ask (leb need output) Output (taken tt)

@@ -1,0 +1,49 @@
+// A list made of a gauge's sizes.
+ghost use mathlib.Core.Path.{_≡_};
+ghost use Prim.Native.Nat.{_≤_, _<_};
+ghost use Rattle.arena.specs.Building.{Hookable};
+ghost use Rattle.parts.specs.Loading.{Placed, Loadable, Loaded};
+use arena::empty::clear_head;
+use arena::prepend::prepend;
+use arena::words::store;
+use facefile::size_in;
+
+// A byte as a word.
+fn word_of(x: u8) -> u32
+    ensures { λ r. ⌜ (r ≡ x) × (r < 256) ⌝ }
+{
+    x as u32
+}
+
+// Fills record r and puts it before the list of a head, whose first record so far is `last`.
+fn load_record(arena: &mut [u32], head: usize, r: usize, last: u32, level: u32, m: u32, p: u32)
+    requires { ⌜ Hookable (now arena) head r × (1 ≤ level) × (level ≤ 8) ⌝ }
+    ensures { λ _. ⌜ Placed (now (arena .entry)) head r last level m p (now (arena .exit)) ⌝ }
+{
+    store(arena, r, 0, level);
+    store(arena, r, 1, m);
+    store(arena, r, 2, p);
+    store(arena, r, 3, last);
+    prepend(arena, head, r);
+}
+
+// Makes the list of a head of the sizes, four bytes a size: m is the height and p the width. Their records are those
+// from `first` on, each with its level. The head's first forward is kept beside the arena and stored at the end.
+pub fn load(arena: &mut [u32], head: usize, first: usize, sizes: &[u8], levels: &[u8])
+    requires { ⌜ Loadable (now arena) head first (now sizes) (now levels) ⌝ }
+    ensures { λ _. ⌜ Loaded (now (arena .entry)) head first (now (sizes .entry)) (now (levels .entry)) (now (arena .exit)) ⌝ }
+{
+    clear_head(arena, head);
+    let mut last = 0;
+    let mut i = levels.len();
+    while 0 < i {
+        let k = i - 1;
+        let level = word_of(levels[k]);
+        let z = size_in(sizes, k);
+        let r = first + k;
+        load_record(arena, head, r, last, level, z.height, z.width);
+        last = r as u32;
+        i = k;
+    }
+    store(arena, head, 3, last);
+}

@@ -1,0 +1,141 @@
+-- Document 01's "Rows to prove together": each row of one table holds of the definitions that the public contracts cite.
+-- The checker computes the definitions at every row, from a file's bytes where the row is about a face.
+use mathlib.Core.Path.{_≡_, refl}
+use mathlib.Core.Bool.{Bool, true, false, _&&_}
+use mathlib.Core.List.{List, [], _∷_, _++_}
+use Prim.Native.Nat.{ℕ, zero, suc, _+_, _*_}
+use lib.Dec.{ltb, eqb}
+use lib.ListN.{replicate, take}
+use Rattle.checks.specs.Answer.{outcome}
+use Rattle.slicing.specs.Item.{Item, size}
+use Rattle.slicing.specs.Tree.{Tree, sizeCount, leastDepth, mostDepth}
+use Rattle.slicing.specs.Merge.{merge, turn}
+use Rattle.slicing.specs.Shapes.{shapes}
+use Rattle.slicing.specs.Layout.{Outline, outline}
+use Rattle.slicing.specs.Fit.{smallest, noTaller, indexOf, place}
+use Rattle.facefile.specs.Format.{header, sizesAfter, sizesFrom, gaugeSizes, gaugeEntry, joinParts, joinEntry, kindEntry, entry, entries, onePart, atEnd, faceOf}
+use Rattle.facefile.proofs.Example.{example}
+use Rattle.levels.specs.Levels.{timesFour, uncutLevel, largestPower, topLevel}
+use Rattle.arena.specs.Arena.{word}
+use Rattle.arena.specs.Lazy.{nextWith, lastWith, sumFrom, trueP, held, walk, linksRight, linked, falling, lazyList}
+use Rattle.maxplus.specs.declared.Reading.{Reading}
+use Rattle.maxplus.specs.Read.{readItem, reading}
+use Rattle.lent.specs.Lent.{writtenOver}
+use Rattle.shapes.specs.Listing.{listWords}
+use Rattle.fit.specs.declared.Fitted.{Fitted}
+use Rattle.fit.specs.Fitting.{noFace, fitted, fitOutput}
+
+pub data Row : Type 0 where
+  -- The outer sizes of a file's face.
+  lists : List ℕ → List Item → Row
+  -- A file's face in an opening: what the fit answers, and the words that it writes.
+  fits : List ℕ → Outline → Fitted → List ℕ → Row
+  -- A file of a lopsided tree of n sizes, and its top level.
+  tops : List ℕ → ℕ → ℕ → Row
+  -- A size number and its uncut level.
+  uncuts : ℕ → ℕ → Row
+  -- A stored p, the adjust that it is under, and the true p.
+  reads : ℕ → ℕ → ℕ → Row
+
+abbrev same : List ℕ → List ℕ → Bool
+same [] [] = true
+same [] (y ∷ l) = false
+same (x ∷ k) [] = false
+same (x ∷ k) (y ∷ l) = eqb x y && same k l
+
+abbrev sameFitted : Fitted → Fitted → Bool
+sameFitted a b =
+    eqb (a .number) (b .number)
+    && eqb (a .height) (b .height)
+    && eqb (a .width) (b .width)
+    && eqb (a .area) (b .area)
+    && eqb (a .count) (b .count)
+
+-- The tree has n sizes, 2D is below E, and the top level is as said.
+abbrev topHolds : ℕ → ℕ → Tree → Bool
+topHolds n level t =
+    eqb (sizeCount t) n && ltb (2 * leastDepth t) (mostDepth t)
+    && eqb (topLevel (sizeCount t) (leastDepth t) (mostDepth t)) level
+
+-- An arena of 16,384 words with one item, of m 60, in record 1 of level 1: its p is under the head's second adjust, and the other adjusts are 0.
+abbrev under : ℕ → ℕ → List ℕ
+under p adjust =
+    (8 ∷ 0 ∷ 0 ∷ 1 ∷ replicate 7 0) ++ (0 ∷ adjust ∷ replicate 6 0)
+    ++ (1 ∷ 60 ∷ p ∷ replicate 16_362 0)
+
+abbrev readHolds : ℕ → Reading → Bool
+readHolds p r = eqb (r .number) 0 && eqb (r .m) 60 && eqb (r .p) p
+
+abbrev pub holds : Row → Bool
+holds (lists file items) = outcome (faceOf file) false (λ t. same (listWords (shapes 0 t)) (listWords items))
+holds (fits file o answer output) = sameFitted (fitted (faceOf file) o) answer && same (fitOutput (faceOf file) o []) output
+holds (tops file n level) = outcome (faceOf file) false (topHolds n level)
+holds (uncuts r level) = eqb (uncutLevel r) level
+holds (reads p adjust true-p) = readHolds true-p (reading (readItem (under p adjust) 1))
+
+abbrev pub all : (Row → Bool) → List Row → Bool
+all f [] = true
+all f (r ∷ rows) = f r && all f rows
+
+-- Document 01's file of 28 bytes, `example`, with 03 as its last byte.
+abbrev stackedInstead : List ℕ
+stackedInstead = take 27 example ++ (0x03 ∷ [])
+
+-- Side by side of (60, 40) and (60, 30).
+abbrev equalHeights : List ℕ
+equalHeights =
+    0x46 ∷ 0x43 ∷ 0x45 ∷ 0x00 ∷ 0x01 ∷ 0x00 ∷ 0x03 ∷ 0x01 ∷ 0x01 ∷ 0x00 ∷ 0x3C ∷ 0x00 ∷ 0x28 ∷ 0x01 ∷ 0x01 ∷ 0x00 ∷ 0x3C ∷ 0x00 ∷ 0x1E ∷ 0x02 ∷ []
+
+-- A lone (1, 1).
+abbrev loneSize : List ℕ
+loneSize = 0x46 ∷ 0x43 ∷ 0x45 ∷ 0x00 ∷ 0x01 ∷ 0x00 ∷ 0x01 ∷ 0x01 ∷ 0x01 ∷ 0x00 ∷ 0x01 ∷ 0x00 ∷ 0x01 ∷ []
+
+-- A lone (60, 40), (40, 60).
+abbrev equalAreas : List ℕ
+equalAreas =
+    0x46 ∷ 0x43 ∷ 0x45 ∷ 0x00 ∷ 0x01 ∷ 0x00 ∷ 0x01 ∷ 0x01 ∷ 0x02 ∷ 0x00 ∷ 0x3C ∷ 0x00 ∷ 0x28 ∷ 0x00 ∷ 0x28 ∷ 0x00 ∷ 0x3C ∷ []
+
+-- Sizes from a height down to 1, each one wider than the one before it.
+abbrev sizesDown : ℕ → ℕ → List ℕ
+sizesDown zero w = []
+sizesDown (suc h) w = 0x00 ∷ suc h ∷ 0x00 ∷ w ∷ sizesDown h (suc w)
+
+abbrev gaugeOf : ℕ → List ℕ
+gaugeOf n = 0x01 ∷ n ∷ sizesDown n 1
+
+-- So many gauges of eight sizes, each right of all before it.
+abbrev eights : ℕ → List ℕ
+eights zero = []
+eights (suc k) = gaugeOf 8 ++ (0x02 ∷ eights k)
+
+-- A gauge of `first` sizes and k gauges of eight: the last has one join above it, and the first has k.
+abbrev lopsided : ℕ → ℕ → List ℕ
+lopsided first k =
+    0x46 ∷ 0x43 ∷ 0x45 ∷ 0x00 ∷ 0x01 ∷ 0x00 ∷ (1 + 2 * k) ∷ (gaugeOf first ++ eights k)
+
+abbrev face : ℕ → ℕ → ℕ → ℕ → Fitted
+face h w area count = record { number = 0; height = h; width = w; area = area; count = count }
+
+abbrev pub rows : List Row
+rows =
+    lists example (size 60 70 ∷ size 50 90 ∷ size 40 110 ∷ [])
+    ∷ lists stackedInstead (size 110 40 ∷ size 90 50 ∷ size 70 60 ∷ [])
+    ∷ lists equalHeights (size 60 70 ∷ [])
+    ∷ fits loneSize (outline 64_000 64_000) (face 1 1 1 1) (1 ∷ 0 ∷ 0 ∷ 1 ∷ 1 ∷ [])
+    ∷ fits example (outline 64_000 64_000) (face 60 70 4_200 3) (1 ∷ 0 ∷ 0 ∷ 40 ∷ 60 ∷ 1 ∷ 40 ∷ 0 ∷ 30 ∷ 50 ∷ [])
+    ∷ fits example (outline 55 64_000) (face 40 110 4_400 3) (2 ∷ 0 ∷ 0 ∷ 60 ∷ 40 ∷ 2 ∷ 60 ∷ 0 ∷ 50 ∷ 30 ∷ [])
+    ∷ fits example (outline 40 110) (face 40 110 4_400 3) (2 ∷ 0 ∷ 0 ∷ 60 ∷ 40 ∷ 2 ∷ 60 ∷ 0 ∷ 50 ∷ 30 ∷ [])
+    ∷ fits example (outline 40 109) (noFace 19) []
+    ∷ fits equalAreas (outline 64_000 64_000) (face 60 40 2_400 2) (1 ∷ 0 ∷ 0 ∷ 40 ∷ 60 ∷ [])
+    ∷ tops (lopsided 7 15) 127 1
+    ∷ tops (lopsided 8 15) 128 2
+    ∷ tops (lopsided 7 63) 511 2
+    ∷ tops (lopsided 8 63) 512 3
+    ∷ uncuts 8 2
+    ∷ uncuts 16 3
+    ∷ reads 35 4_294_967_291 30
+    ∷ []
+
+pub rows-hold : all holds rows ≡ true
+unfolding header sizesAfter sizesFrom gaugeSizes gaugeEntry joinParts joinEntry kindEntry entry entries onePart atEnd faceOf merge turn shapes smallest noTaller indexOf place listWords writtenOver timesFour uncutLevel largestPower topLevel word nextWith lastWith sumFrom trueP held walk linksRight linked falling lazyList readItem
+rows-hold = refl

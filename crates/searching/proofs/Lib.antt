@@ -1,0 +1,4 @@
+pub mod SearchLaws
+pub mod CutLaws
+pub mod CountLaws
+pub mod Passing

@@ -1,0 +1,5 @@
+pub mod LiftLaws
+pub mod Raising
+pub mod SettleLaws
+pub mod FrontLaws
+pub mod Settling

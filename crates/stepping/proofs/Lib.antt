@@ -1,0 +1,6 @@
+pub mod MovedLaws
+pub mod TrioLaws
+pub mod Steps
+pub mod Confined
+pub mod NewerStep
+pub mod OlderStep

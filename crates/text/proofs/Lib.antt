@@ -1,0 +1,5 @@
+pub mod Decimals
+pub mod Lengths
+pub mod Appends
+pub mod Copies
+pub mod Numbers
