@@ -25,6 +25,9 @@ SETS = [face_files, list_files, fit_files, text_files]
 RANDOM = 300
 SEED = 7
 
+# The most bytes of output that `rt try` takes, which tools/try_edits.py runs.
+MOST = 1_048_576
+
 
 def faults():
     return [fault for module in SETS + [arenas] for fault in module.faults()]
@@ -41,7 +44,7 @@ def names():
 
 def file_cases():
     """The cases of each file."""
-    listed = {stored.file for stored in list_files.FILES}
+    listed = {stored.file for stored in list_files.FILES + fit_files.FILES}
     fitted = {stored.file: fit_files.openings(stored) for stored in fit_files.FILES}
     printed = {stored.file for stored in text_files.FILES}
     refused = {stored.file for module in SETS for stored in module.FILES if stored.number != 0}
@@ -78,6 +81,8 @@ def main():
         FOLDER / "stdin": "".join(case.line() for case in cases).encode(),
         FOLDER / "stdout": "".join(case.answer() for case in cases).encode(),
     }
+    if len(stored[FOLDER / "stdout"]) > MOST:
+        sys.exit(f"stdout has more than {MOST} bytes")
     if "--check" in sys.argv[1:]:
         stop_at([f"{path}: not as this script writes it" for path, text in stored.items() if path.read_bytes() != text])
         print(f"{len(cases)} cases: the files are as this script writes them")

@@ -16,7 +16,7 @@ import sys
 
 sys.dont_write_bytecode = True
 
-from making import random_cases, running
+from making import random_arenas, random_cases, running
 
 
 def kinds(cases):
@@ -28,7 +28,7 @@ def kinds(cases):
 
 def arenas(rng, program, count):
     """So many arenas that the list call leaves, and how many are not as they should be."""
-    bases = random_cases.lefts(rng, count)
+    bases = random_arenas.lefts(rng, count)
     answers = running.run(program, [case for i, left in enumerate(bases) for case in left.cases(f"arena {i}")])
     # Every other answer is the reader's.
     wrong = sum(not left.take(answer) for left, answer in zip(bases, answers[1::2]))
@@ -44,7 +44,8 @@ def run_all(program, count, seed):
         return wrong
     cases = []
     for i in range(count):
-        cases += random_cases.scrambled(rng, str(i), rng.choice(bases)) if i < share else random_cases.made(rng, str(i))
+        read = i < share
+        cases += random_arenas.scrambled(rng, str(i), rng.choice(bases)) if read else random_cases.made(rng, str(i))
     print(kinds(cases))
     wrong = running.different(cases, running.run(program, cases))
     print(f"{count} cases ran, {wrong} differ")

@@ -40,10 +40,10 @@ class Levels:
 # The reader, gauge bytes, levels
 
 
-def gauges_shown(count):
-    """The gauges whose bytes are asked for: where they are few all from 0, else the first and the last, and the next
-    number, which no gauge has."""
-    return range(count + 2) if count <= 4 else (1, count, count + 1)
+def gauges_asked(count):
+    """The gauges whose bytes are asked for, of a face of so many: the first four, the middle one and the last ones, and
+    numbers that no gauge has."""
+    return sorted({0, 1, 2, count // 2, count - 1, count, count + 1, 4294967295} | set(range(min(count, 5))))
 
 
 def reader_calls(name, file):
@@ -53,7 +53,7 @@ def reader_calls(name, file):
     else:
         face = face_model.read(file)
         sizes = face.size_count()
-        lengths, gauges = [sizes, sizes + 1, sizes - 1], gauges_shown(face.gauge_count())
+        lengths, gauges = [sizes, sizes + 1, sizes - 1], gauges_asked(face.gauge_count())
     return (
         [file_case(name, file)]
         + [gauge_case(f"{name}, gauge {gauge}", file, gauge) for gauge in gauges]

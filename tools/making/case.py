@@ -17,6 +17,11 @@ TEXT_LEAST = 13_645
 # What a buffer of levels holds before the levels call.
 BLANK = 170
 
+# How many items of a list and how many words of an output are shown. Of those after them a sum is.
+ITEMS = 16
+OUTPUT_WORDS = 60
+MODULUS = 1_000_003
+
 
 @dataclasses.dataclass
 class Case:
@@ -61,6 +66,14 @@ def row(words):
     return "".join(f" {word}" for word in words)
 
 
+def sum_of(words):
+    """Words in one number. crates/cases/src/sum.rt states the same formula."""
+    found = 0
+    for word in words:
+        found = (31 * found + word) % MODULUS
+    return f" sum {found}" if words else ""
+
+
 # ---------------------------------------------------------------------------------------------------------------
 # The calls
 
@@ -87,10 +100,16 @@ def levels_case(name, file, length):
 
 
 def list_line(walked):
-    """The list in an arena, item by item, and what the reading call answers just before it and just after."""
-    items = "".join(f" {item.record} {item.level} {item.m} {item.p}," for item in walked)
+    """The list in an arena, item by item, and what the reading call answers just before it and just after. Of an item that
+    is not shown, m counts twice: as it was read, and as its record has it."""
+    items = "".join(f" {item.record} {item.level} {item.m} {item.p}," for item in walked[:ITEMS])
+    others = [word for item in walked[ITEMS:] for word in (item.record, item.level, item.m, item.p, item.m)]
     before, after = (list_model.read_call(walked, place)[0] for place in (0, len(walked) + 1))
-    return f"list{items} ends {before} {after}"
+    return f"list{items}{sum_of(others)} ends {before} {after}"
+
+
+def output_line(words):
+    return f"output{row(words[:OUTPUT_WORDS])}{sum_of(words[OUTPUT_WORDS:])} rest kept"
 
 
 ALL_KEPT = "arena kept scratch kept output kept"
@@ -101,7 +120,7 @@ def list_case(name, file, levels, arena, scratch, output):
     answer = f"list {listed.number} {len(listed.items)}"
     if listed.number == 0:
         words = [word for item in listed.items for word in (item.height, item.width)]
-        wanted = lines(answer, f"output{row(words)} rest kept", list_line(listed.walked))
+        wanted = lines(answer, output_line(words), list_line(listed.walked))
     else:
         wanted = lines(answer, ALL_KEPT)
     return Case(name, given("l", levels, 0, 0, arena, scratch, output), wanted)
@@ -111,7 +130,7 @@ def fit_case(name, file, levels, height, width, arena, scratch, output):
     fitted = fit_model.fit_call(file, levels, height, width, arena, scratch, output)
     answer = "fit" + row(fitted.fields())
     if fitted.number == 0:
-        wanted = lines(answer, f"output{row(fitted.words)} rest kept", list_line(fitted.walked))
+        wanted = lines(answer, output_line(fitted.words), list_line(fitted.walked))
     elif fitted.number == 19:
         wanted = lines(answer, "output kept", list_line(fitted.walked))
     else:

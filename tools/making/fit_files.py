@@ -178,6 +178,21 @@ fits(
     {(LARGEST, LARGEST): [(1, 0, 0), (1, 0, 20), (1, 50, 0)], (50, 58): [(1, 0, 0), (1, 0, 20), (1, 50, 0)], (50, 57): 19},
 )
 
+# --- The widest face and the highest: 64 gauges of 1,000 either way reach the largest opening.
+LARGE = gauge((1000, 1000))
+WIDEST = [(1, 1000 * i, 0) for i in range(64)]
+HIGHEST = [(1, 0, 1000 * i) for i in range(64)]
+fits(
+    "widest",
+    {(LARGEST, LARGEST): WIDEST, (1000, LARGEST): WIDEST, (1000, LARGEST - 1): 19, (999, LARGEST): 19},
+    face(LARGE, *[LARGE, BESIDE] * 63),
+)
+fits(
+    "highest",
+    {(LARGEST, LARGEST): HIGHEST, (LARGEST, 1000): HIGHEST, (LARGEST - 1, 1000): 19, (LARGEST, 999): 19},
+    face(LARGE, *[LARGE, STACKED] * 63),
+)
+
 # --- Faces of tiny sizes, so that all places in an opening can be tried.
 TINY = {
     "tiny-beside": face(gauge((3, 1), (1, 2)), gauge((2, 1), (1, 3)), BESIDE),

@@ -117,7 +117,8 @@ def damaged(rng, file):
 
 def noise(rng):
     """Random bytes, after a header or not."""
-    start = rng.choice([b"", b"FCE", b"FCE\0\1", face_bytes.header(rng.randint(0, 130)), face_bytes.header(rng.randint(1, 5))])
+    headers = [face_bytes.header(rng.randint(0, 130)), face_bytes.header(rng.randint(1, 5))]
+    start = rng.choice([b"", b"FCE", b"FCE\0\1", *headers])
     few = rng.random() < 0.5
     return start + bytes(rng.randint(0, 4) if few else rng.randrange(256) for _ in range(rng.randint(0, 40)))
 

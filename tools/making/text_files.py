@@ -9,7 +9,7 @@ from models import text_model
 # Files of fit_files.py.
 NAMES = """example example-stacked lone-1-1 lone-of-8 lone-equal-areas tie tie-stacked lower-side three-beside
 three-stacked-then-beside mixed-7 mixed-20 alternating-17 balanced-16 equal-areas-stacked pile-of-16 row-of-64
-alternating-64 mixed-64 lone-last-byte-3-of-259
+alternating-64 mixed-64 lone-last-byte-3-of-259 widest highest
 no-1 no-2 no-3 no-4 no-5 no-6 no-7 no-8 no-9 no-10 no-11 no-12 no-13""".split()
 BY_NAME = {stored.name: stored for stored in fit_files.FILES}
 

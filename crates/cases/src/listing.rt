@@ -1,7 +1,6 @@
 // The list call, and the calls on the arena that it leaves.
 ghost use Prim.Native.Nat.{_≤_};
 ghost use lib.ListN.{length};
-use crate::arena::replace_words;
 use crate::kept::show_all_kept;
 use crate::number::Numbers;
 use crate::number::at_most;
@@ -17,6 +16,7 @@ use crate::shown::show_list;
 use crate::shown::show_output;
 use crate::shown::show_reading;
 use crate::shown::show_words;
+use crate::words::replace_words;
 
 // What the list call answered and what it left, or whether the buffers are as they were.
 fn show_listed(listed: shapes::Listed, arena: &[u32], scratch: &[u32], output: &[u32]) {

@@ -31,8 +31,8 @@
 // Before a call each word of a lent buffer is 2,863,311,530. The list and fit calls print their number and fields; where
 // they are taken, the output's words and whether those after are as they were; the record, level, m and true p of each
 // item of the arena's list, m and p as the reading call gives them, and the numbers with which that call refuses place 0
-// and the place after the last; and of a refusal whether each buffer is as it was.
-mod arena;
+// and the place after the last; and of a refusal whether each buffer is as it was. Of a long list or output the first
+// items or words are printed, and a sum of the others.
 mod calls;
 mod case;
 mod fitting;
@@ -43,6 +43,8 @@ mod number;
 mod print;
 mod rooms;
 mod shown;
+mod sum;
+mod words;
 
 ghost use Prim.Native.Nat.{_≤_};
 use crate::number::at_most;

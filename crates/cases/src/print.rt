@@ -21,6 +21,12 @@ pub fn put_count(separator: &[u8], count: usize) {
     put_number(count as u64);
 }
 
+// The sum of words that are not shown.
+pub fn put_sum(sum: u64) {
+    put(b" sum ");
+    put_number(sum);
+}
+
 // Words, with a blank before each.
 pub fn put_row(words: &[u32]) {
     let mut i = 0;

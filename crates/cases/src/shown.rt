@@ -1,14 +1,39 @@
 // What a call left in its buffers.
-use crate::arena::word;
+ghost use Prim.Native.Nat.{_≤_};
 use crate::kept::is_blank;
 use crate::kept::is_untouched;
 use crate::kept::put_kept;
 use crate::print::put;
 use crate::print::put_row;
+use crate::print::put_sum;
 use crate::print::put_word;
+use crate::sum::sum_of;
+use crate::sum::with_word;
+use crate::words::word;
+
+// How many items of a list are shown, and how many words of an output. Of those after them a sum is.
+const ITEMS: u32 = 16;
+
+const WORDS: usize = 60;
 
 // One more than the most items of a list.
 const PLACES: u32 = 513;
+
+// How many of so many words are shown.
+fn shown_of(words: usize) -> usize
+    ensures { λ r. ⌜ r ≤ words ⌝ }
+{
+    if words < WORDS { words } else { WORDS }
+}
+
+// Words of an output.
+fn put_words(words: &[u32]) {
+    let shown = shown_of(words.len());
+    put_row(&words[..shown]);
+    if shown < words.len() {
+        put_sum(sum_of(&words[shown..]));
+    }
+}
 
 // So many words of the output, and whether those after them are as they were.
 pub fn show_output(output: &[u32], words: usize) {
@@ -17,7 +42,7 @@ pub fn show_output(output: &[u32], words: usize) {
         return;
     }
     put(b"output");
-    put_row(&output[..words]);
+    put_words(&output[..words]);
     put_kept(b" rest", is_untouched(&output[words..]));
     put(b"\n");
 }
@@ -50,8 +75,28 @@ fn put_item(arena: &[u32], record: u32, reading: maxplus::Reading) {
     put(b",");
 }
 
-// The line's end of a list: with which numbers the reading call refuses place 0, and the place after the last.
-fn put_ends(arena: &[u32], last: u32) {
+// A sum with an item more.
+fn with_item(sum: u64, arena: &[u32], record: u32, reading: maxplus::Reading) -> u64 {
+    let of_record = with_word(with_word(sum, record), word(arena, record, 0));
+    let of_reading = with_word(with_word(of_record, reading.m), reading.p);
+    with_word(of_reading, word(arena, record, 1))
+}
+
+// Shows an item where it is one of the first. Else its words go to the sum, which is answered.
+fn show_item(sum: u64, place: u32, arena: &[u32], record: u32, reading: maxplus::Reading) -> u64 {
+    if place <= ITEMS {
+        put_item(arena, record, reading);
+        return sum;
+    }
+    with_item(sum, arena, record, reading)
+}
+
+// The line's end of a list that ends before a place: the sum of the items that are not shown, and with which numbers the
+// reading call refuses place 0 and that place.
+fn put_ends(arena: &[u32], sum: u64, place: u32, last: u32) {
+    if place > ITEMS + 1 {
+        put_sum(sum);
+    }
     put_word(b" ends ", maxplus::read(arena, 0).number);
     put_word(b" ", last);
     put(b"\n");
@@ -62,13 +107,14 @@ pub fn show_list(arena: &[u32]) {
     put(b"list");
     let mut record = word(arena, 0, 3);
     let mut place = 1;
+    let mut sum = 0;
     while place <= PLACES {
         let reading = maxplus::read(arena, place);
         if reading.number != 0 {
-            put_ends(arena, reading.number);
+            put_ends(arena, sum, place, reading.number);
             return;
         }
-        put_item(arena, record, reading);
+        sum = show_item(sum, place, arena, record, reading);
         record = word(arena, record, 3);
         place += 1;
     }

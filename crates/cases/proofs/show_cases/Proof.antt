@@ -1,5 +1,5 @@
--- `cases::show_cases` is safe and ends. The room for a file keeps its length, and the measure is how many cases are left.
--- Assumes nothing.
+-- `cases::show_cases` is safe and ends. The room for a file keeps its length, and the measure is how many cases are
+-- left. Assumes nothing.
 use mathlib.Core.Path.{_≡_}
 use Prim.Native.Nat.{_-_}
 use lib.ListN.{length}

@@ -1,5 +1,5 @@
--- `cases::hex::decode` is safe and ends. `at` stays within the text and `n` within the buffer, which keeps its length; the measure is how far `at` is from the end of the text.
--- Assumes nothing.
+-- `cases::hex::decode` is safe and ends. `at` stays within the text and `n` within the buffer, which keeps its length;
+-- the measure is how far `at` is from the end of the text. Assumes nothing.
 use mathlib.Core.Path.{_≡_}
 use Prim.Native.Nat.{_-_, _≤_}
 use lib.ListN.{length}

@@ -1,5 +1,5 @@
--- `cases::hex::put_run` is safe and ends. The buffer keeps its length, within which `end` is; the measure is how far `at` is from it.
--- Assumes nothing.
+-- `cases::hex::put_run` is safe and ends. The buffer keeps its length, within which `end` is; the measure is how far
+-- `at` is from it. Assumes nothing.
 use mathlib.Core.Path.{_≡_}
 use Prim.Native.Nat.{_-_, _≤_}
 use lib.ListN.{length}

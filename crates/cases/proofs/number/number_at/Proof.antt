@@ -1,5 +1,5 @@
--- `cases::number::number_at` is safe and ends. `at` stays from `start` to the length, and the measure is how far it is from the length.
--- Assumes nothing.
+-- `cases::number::number_at` is safe and ends. `at` stays from `start` to the length, and the measure is how far it is
+-- from the length. Assumes nothing.
 use Prim.Native.Nat.{_-_, _≤_}
 use borrow.Author.Needs.{needs}
 use lib.ListN.{length}

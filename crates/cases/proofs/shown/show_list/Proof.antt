@@ -1,15 +1,15 @@
--- `cases::shown::show_list` is safe and ends. Nothing has to hold from turn to turn, and the measure is how far `place` is from the last one.
--- Assumes nothing.
+-- `cases::shown::show_list` is safe and ends. Nothing has to hold from turn to turn, and the measure is how far `place`
+-- is from the last one. Assumes nothing.
 use Prim.Native.Nat.{_-_}
 use borrow.Author.Needs.{needs}
 use Rattle.cases.proofs.shown.show_list.Statement.{statement}
 use Rattle.cases.proofs.shown.show_list.Tie as tie
 
 abbrev Inv-loop : tie.InvT-loop
-Inv-loop arena record₀ place₀ t6 «record» place = Unit {0}
+Inv-loop arena record₀ place₀ sum₀ t7 «record» place sum = Unit {0}
 
 abbrev μ-loop : tie.MeasureT-loop
-μ-loop arena record₀ place₀ t6 «record» place = 514 - place
+μ-loop arena record₀ place₀ sum₀ t7 «record» place sum = 514 - place
 
 slice-aggregate-put : tie.Need-slice-aggregate-put Inv-loop μ-loop
 slice-aggregate-put c = search needs
@@ -32,8 +32,8 @@ put-ends-requires c κs = search needs
 returns : tie.Need-returns Inv-loop μ-loop
 returns c = search needs
 
-put-item-requires : tie.Need-put-item-requires Inv-loop μ-loop
-put-item-requires c κs = search needs
+show-item-requires : tie.Need-show-item-requires Inv-loop μ-loop
+show-item-requires c κs = search needs
 
 word-requires-2 : tie.Need-word-requires-2 Inv-loop μ-loop
 word-requires-2 c κs = search needs
@@ -69,7 +69,7 @@ show-list-spec =
     read-requires
     put-ends-requires
     returns
-    put-item-requires
+    show-item-requires
     word-requires-2
     add-place
     loop-less

@@ -21,11 +21,11 @@ slice-aggregate-put-2 c = search needs
 put-requires-2 : tie.Need-put-requires-2
 put-requires-2 c κs = search needs
 
-slice-aggregate-put-row : tie.Need-slice-aggregate-put-row
-slice-aggregate-put-row c = sym (length-take-le _ _ (omega arith))
+slice-aggregate-put-words : tie.Need-slice-aggregate-put-words
+slice-aggregate-put-words c = sym (length-take-le _ _ (omega arith))
 
-put-row-requires : tie.Need-put-row-requires
-put-row-requires c κs = search needs
+put-words-requires : tie.Need-put-words-requires
+put-words-requires c κs = search needs
 
 slice-aggregate-put-kept : tie.Need-slice-aggregate-put-kept
 slice-aggregate-put-kept c = search needs
@@ -66,8 +66,8 @@ show-output-spec =
     returns
     slice-aggregate-put-2
     put-requires-2
-    slice-aggregate-put-row
-    put-row-requires
+    slice-aggregate-put-words
+    put-words-requires
     slice-aggregate-put-kept
     mul-is-untouched
     sub-is-untouched

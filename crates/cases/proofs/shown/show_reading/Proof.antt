@@ -1,4 +1,5 @@
--- `cases::shown::show_reading` is safe: each part that it lends is no longer than what it is a part of. Assumes nothing.
+-- `cases::shown::show_reading` is safe: each part that it lends is no longer than what it is a part of. Assumes
+-- nothing.
 use native.Mathlib.Omega.{arith}
 use mathlib.Core.Path.{sym}
 use lib.Seq.{length-take-le}

@@ -1,11 +1,11 @@
--- `cases::arena::replace_words` is safe and ends. `at` stays within the text, and the arena keeps its length; the measure is how far `at` is from the length.
--- Assumes nothing.
+-- `cases::words::replace_words` is safe and ends. `at` stays within the text, and the arena keeps its length; the
+-- measure is how far `at` is from the length. Assumes nothing.
 use mathlib.Core.Path.{_≡_}
 use Prim.Native.Nat.{_-_, _≤_}
 use borrow.Author.Needs.{needs}
 use lib.ListN.{length}
-use Rattle.cases.proofs.arena.replace_words.Statement.{statement}
-use Rattle.cases.proofs.arena.replace_words.Tie as tie
+use Rattle.cases.proofs.words.replace_words.Statement.{statement}
+use Rattle.cases.proofs.words.replace_words.Tie as tie
 
 abbrev Inv-loop : tie.InvT-loop
 Inv-loop text start arena₀ at₀ place₀ arena at place = (at ≤ length text) × (length arena ≡ length arena₀)
