@@ -3,7 +3,8 @@
 that the statements of the demands' theorems reach beyond them.
 
     python3 tools/definitions.py            prints both tables, file by file with the lines of each
-    python3 tools/definitions.py --check    says whether docs/TRUST.md has them as they are printed
+    python3 tools/definitions.py --check    says whether docs/TRUST.md has them as they are printed, and whether just the
+                                            others stand in specs/inside/
 
 It reads the sources as text. A contract reaches the names in its clauses; a name reaches those in its own definition.
 Lines are all lines of a file, its comments and imports too.
@@ -36,7 +37,7 @@ THEOREMS = [
     ("slicing/proofs/MergeLaws.antt", "maxplus"),
 ]
 
-IMPORT = re.compile(r"^(?:ghost |pub )*use Rattle·(\w+)(?:·\w+)?\.(specs|proofs)\.(\w+)\.\{([^}]*)\}", re.M)
+IMPORT = re.compile(r"^(?:ghost |pub )*use Rattle·(\w+)(?:·\w+)?\.(specs|proofs)\.((?:inside\.)?\w+)\.\{([^}]*)\}", re.M)
 HEAD = re.compile(r"^(?:(?:pub|abbrev|unfoldable|data|record) )*([^\s(){}:;]+)\s")
 WORD = re.compile(r"[^\s(){}.;,⌜⌝]+")
 
@@ -50,7 +51,7 @@ class File:
         for crate, folder, module, names in IMPORT.findall(self.text):
             for name in names.split(","):
                 own, _, called = name.strip().partition(" as ")
-                self.imports[called or own] = CRATES / crate / folder / f"{module}.antt", own
+                self.imports[called or own] = CRATES / crate / folder / f"{module.replace('.', '/')}.antt", own
         self.definitions = {}
         name = None
         for line in self.text.split("\n"):
@@ -117,6 +118,12 @@ def table(paths):
     return "\n".join(lines) + "\n"
 
 
+def misplaced(believed):
+    """The definitions of specs/ that nobody has to believe, and those of specs/inside/ that a reader has to."""
+    outer = {path for path in CRATES.glob("*/specs/*.antt") if path.name not in ("Lib.antt", "inside.antt")}
+    return sorted((outer - believed) | (believed - outer))
+
+
 def main():
     contracts = {path for path, _ in reached((CRATES / path, clauses(CRATES / path, call)) for path, call in CALLS)}
     theorems = {path for path, _ in reached((CRATES / path, statement(CRATES / path, law)) for path, law in THEOREMS)}
@@ -124,7 +131,10 @@ def main():
     if "--check" in sys.argv[1:]:
         if any(part not in PAGE.read_text() for part in tables):
             sys.exit("docs/TRUST.md has other tables")
-        print("docs/TRUST.md has the tables as they are")
+        wrong = misplaced(contracts | theorems)
+        if wrong:
+            sys.exit("\n".join(f"{path.relative_to(ROOT)}: stands in the wrong folder" for path in wrong))
+        print("docs/TRUST.md has the tables as they are, and specs/inside/ has the others")
         return
     print("What the contracts of the calls reach:\n\n" + tables[0])
     print("What the statements of the demands' theorems reach beyond that:\n\n" + tables[1], end="")
