@@ -20,7 +20,7 @@ use Rattle.splicing.specs.Open.{Relinkable, Relinked, lastSums, cutSums}
 use Rattle.settling.specs.Settled.{headSums, Settled}
 use Rattle.settling.specs.Cached.{Cached, MakesUp}
 use Rattle.settling.proofs.Raising.{Raised, p-raised}
-use Rattle.moving.specs.Advance.{Movable, Moved}
+use Rattle.moving.specs.Advance.{Movable, MovedFront}
 use Rattle.moving.proofs.Advancing.{can-relink, moved, moved-cached}
 use Rattle.moving.proofs.RunLaws.{raised-one}
 
@@ -163,9 +163,9 @@ module _ (a : List ℕ) (h hc key : ℕ) (cs : List ℕ) (r : ℕ) (rs ends : Li
         first-relinkable = can-relink a h hc key cs x rs ends first n counted cut found is-cut q b settled
 
         module _ (d ends' : List ℕ) (e : Relinked b d h hc cs (front a key (x ∷ rs)) (behind a key (x ∷ rs)) cut found ends ends' n) where
-          pub first-moved : Moved a d h hc q cs (front a key (r ∷ rs)) (behind a key (r ∷ rs)) ends'
+          pub first-moved : MovedFront a d h hc key q cs (r ∷ rs) ends'
           first-moved =
-              subst (λ (y : ℕ). Moved a d h hc q cs (front a key (y ∷ rs)) (behind a key (y ∷ rs)) ends') (first-is a h hc key cs r rs ends w x x-is)
+              subst (λ (y : ℕ). MovedFront a d h hc key q cs (y ∷ rs) ends') (first-is a h hc key cs r rs ends w x x-is)
               (moved a h hc key cs x rs ends first n counted cut found is-cut q b settled d ends' e)
 
           pub first-cached : (heads lasts heads' lasts' : List ℕ) → Cached a h ends heads lasts → RenewedBelow (cutSums found) n heads heads' → RenewedBelow (lastSums b cut) n lasts lasts' → Cached d h ends' heads' lasts'

@@ -33,6 +33,10 @@ pub record Moved (a b : List ℕ) (h hc q : ℕ) (cs fr back ends' : List ℕ) :
   pub result-sums : (k : ℕ) → k < 8 → adjust b hc k ≡ adjust a hc k
   pub outside : (x : ℕ) → (h ≡ x → ⊥) → (hc ≡ x → ⊥) → Away x cs → Away x fr → Same a b x
 
+-- The records of rs in front, not below the key, were moved, and those behind are left.
+abbrev pub MovedFront : (a b : List ℕ) (h hc key q : ℕ) (cs rs ends' : List ℕ) → Type 0
+MovedFront a b h hc key q cs rs ends' = Moved a b h hc q cs (front a key rs) (behind a key rs) ends'
+
 -- What moving a run asks, for some open list with these ends, and what it promises for any.
 abbrev pub RunReady : (a : List ℕ) (h key : ℕ) (ends : List ℕ) → Type 0
 RunReady a h key ends =
@@ -40,4 +44,4 @@ RunReady a h key ends =
 
 abbrev pub RunMoved : (a b : List ℕ) (h key q : ℕ) (ends ends' : List ℕ) → Type 0
 RunMoved a b h key q ends ends' =
-    (hc : ℕ) (cs : List ℕ) (r : ℕ) (rs : List ℕ) → Movable a h hc key cs r rs ends → Moved a b h hc q cs (front a key (r ∷ rs)) (behind a key (r ∷ rs)) ends'
+    (hc : ℕ) (cs : List ℕ) (r : ℕ) (rs : List ℕ) → Movable a h hc key cs r rs ends → MovedFront a b h hc key q cs (r ∷ rs) ends'

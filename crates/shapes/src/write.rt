@@ -12,6 +12,8 @@ ghost use Rattle.shapes.specs.Writing.{Countable, Listable, itemAt};
 use arena::sums::enter;
 use arena::sums::pass;
 use arena::sums::true_p;
+use arena::words::FORWARD;
+use arena::words::M;
 use arena::words::get;
 use arena::words::wide;
 
@@ -20,10 +22,10 @@ fn count_items(arena: &[u32], head: usize) -> usize
     requires { ⌜ ((rs : List ℕ) × Countable (now arena) head rs) ⌝ }
     ensures { λ r. ⌜ ((rs : List ℕ) → Countable (now (arena .entry)) head rs → r ≡ length rs) ⌝ }
 {
-    let mut next = get(arena, head, 3);
+    let mut next = get(arena, head, FORWARD);
     let mut count = 0;
     while next != 0 {
-        next = get(arena, wide(next), 3);
+        next = get(arena, wide(next), FORWARD);
         count += 1;
     }
     count
@@ -45,12 +47,12 @@ pub fn write_by_height(arena: &[u32], head: usize, output: &mut [u32]) -> usize
 {
     let mut sums = [0u32; 9];
     enter(arena, head, &mut sums);
-    let mut next = get(arena, head, 3);
+    let mut next = get(arena, head, FORWARD);
     let mut at = 0;
     while next != 0 {
         let r = wide(next);
-        next = get(arena, r, 3);
-        let height = get(arena, r, 1);
+        next = get(arena, r, FORWARD);
+        let height = get(arena, r, M);
         let width = true_p(arena, r, &sums);
         write_item(output, at, height, width);
         pass(arena, r, &mut sums);
@@ -68,12 +70,12 @@ pub fn write_by_width(arena: &[u32], head: usize, output: &mut [u32]) -> usize
     let count = count_items(arena, head);
     let mut sums = [0u32; 9];
     enter(arena, head, &mut sums);
-    let mut next = get(arena, head, 3);
+    let mut next = get(arena, head, FORWARD);
     let mut at = 2 * count;
     while next != 0 {
         let r = wide(next);
-        next = get(arena, r, 3);
-        let width = get(arena, r, 1);
+        next = get(arena, r, FORWARD);
+        let width = get(arena, r, M);
         let height = true_p(arena, r, &sums);
         at -= 2;
         write_item(output, at, height, width);

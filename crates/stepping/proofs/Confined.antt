@@ -10,10 +10,10 @@ use Rattle.arena.proofs.PutLaws.{same-trans}
 use Rattle.searching.specs.Cut.{front, behind}
 use Rattle.searching.proofs.CutLaws.{all-front, all-behind}
 use Rattle.dropping.specs.Dropping.{Dropped}
-use Rattle.moving.specs.Advance.{Moved}
+use Rattle.moving.specs.Advance.{MovedFront}
 use Rattle.stepping.specs.Running.{Confined}
 
-module _ (a₀ a b : List ℕ) (ho hn hc key q r : ℕ) (xs₀ ys₀ xs ys cs ends' : List ℕ) (w : Confined a₀ a ho hn hc xs₀ ys₀ (r ∷ xs) ys cs) (d : Moved a b ho hc q cs (front a key (r ∷ xs)) (behind a key (r ∷ xs)) ends') where
+module _ (a₀ a b : List ℕ) (ho hn hc key q r : ℕ) (xs₀ ys₀ xs ys cs ends' : List ℕ) (w : Confined a₀ a ho hn hc xs₀ ys₀ (r ∷ xs) ys cs) (d : MovedFront a b ho hc key q cs (r ∷ xs) ends') where
   abbrev fr : List ℕ
   fr = front a key (r ∷ xs)
 

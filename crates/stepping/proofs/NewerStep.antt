@@ -12,7 +12,7 @@ use Rattle.searching.specs.Cut.{front, behind}
 use Rattle.searching.proofs.CutLaws.{behind-shorter, all-front}
 use Rattle.dropping.proofs.DropLaws.{same-first, first-has}
 use Rattle.settling.specs.Cached.{Cached}
-use Rattle.moving.specs.Advance.{Movable, Moved, RunMoved}
+use Rattle.moving.specs.Advance.{Movable, MovedFront, RunMoved}
 use Rattle.stepping.specs.Trio.{Kept}
 use Rattle.stepping.specs.Running.{Waiting, Task, Further, Both, waitingIn, NewerFirst, NewerReady, NewerDone}
 use Rattle.stepping.proofs.TrioLaws.{trio-swap, trio-movable}
@@ -76,11 +76,11 @@ module _ (t : Task) (a b : List ℕ) (ho hn : ℕ) (ends ends' : List ℕ) (w : 
   abbrev key : ℕ
   key = mWord a (at .r) + 1
 
-  abbrev moves : Type 0
-  moves =
-      Moved a b hn (t .result) (pUnder a (adjust a ho) (at .r)) (at .cs) (front a key (at .s ∷ at .ys)) (behind a key (at .s ∷ at .ys)) ends'
+  abbrev Moves : Type 0
+  Moves =
+      MovedFront a b hn (t .result) key (pUnder a (adjust a ho) (at .r)) (at .cs) (at .s ∷ at .ys) ends'
 
-  newer-further : moves → Further t b ho hn ends' (waitingIn at)
+  newer-further : Moves → Further t b ho hn ends' (waitingIn at)
   newer-further d =
       record {
         still =
@@ -107,5 +107,5 @@ newer-done a b ho hn v key q ends ends' e k f move t w =
     let same = same-first a ho v (at .r) (at .xs) (at .merging .runs .waits .lists .older .linked) e in
     let d = move (t .result) (at .cs) (at .s) (at .ys) (newer-movable a ho hn v ends (t, w) e key k) in
     newer-further t a b ho hn ends ends' w
-    (subst (λ (x : ℕ). Moved a b hn (t .result) x (at .cs) (front a (mWord a (at .r) + 1) (at .s ∷ at .ys)) (behind a (mWord a (at .r) + 1) (at .s ∷ at .ys)) ends') (f ∙ ap (pUnder a (adjust a ho)) same)
-    (subst (λ (x : ℕ). Moved a b hn (t .result) q (at .cs) (front a (x + 1) (at .s ∷ at .ys)) (behind a (x + 1) (at .s ∷ at .ys)) ends') (k ∙ ap (λ (x : ℕ). word a x 1) same) d))
+    (subst (λ (x : ℕ). MovedFront a b hn (t .result) (mWord a (at .r) + 1) x (at .cs) (at .s ∷ at .ys) ends') (f ∙ ap (pUnder a (adjust a ho)) same)
+    (subst (λ (x : ℕ). MovedFront a b hn (t .result) (x + 1) q (at .cs) (at .s ∷ at .ys) ends') (k ∙ ap (λ (x : ℕ). word a x 1) same) d))

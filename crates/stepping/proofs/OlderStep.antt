@@ -19,7 +19,7 @@ use Rattle.dropping.specs.Dropping.{Dropped, Tied, DroppedTied}
 use Rattle.dropping.proofs.DropLaws.{same-first, first-has}
 use Rattle.splicing.specs.Open.{lastSums}
 use Rattle.settling.specs.Cached.{Cached}
-use Rattle.moving.specs.Advance.{Movable, Moved, RunMoved}
+use Rattle.moving.specs.Advance.{Movable, MovedFront, RunMoved}
 use Rattle.stepping.specs.Trio.{Kept}
 use Rattle.stepping.specs.Running.{Waiting, Confined, Task, Further, Both, waitingIn, OlderFirst, OlderReady, OlderDone}
 use Rattle.stepping.proofs.TrioLaws.{trio-movable, trio-moved}
@@ -61,10 +61,10 @@ module _ (a : List ℕ) (ho hn v : ℕ) (ends : List ℕ) (p : OlderReady a ho h
 
     -- After the run was moved, in the words of the laws.
     module _ (b : List ℕ) (q : ℕ) (ends' : List ℕ) (f : q ≡ pUnder a (adjust a hn) v) (move : RunMoved a b ho key q ends ends') where
-      pub older-moved : Moved a b ho (p .0 .result) (pUnder a (adjust a hn) (now .s)) (now .cs) (front a (mWord a (now .s)) (now .r ∷ now .xs)) (behind a (mWord a (now .s)) (now .r ∷ now .xs)) ends'
+      pub older-moved : MovedFront a b ho (p .0 .result) (mWord a (now .s)) (pUnder a (adjust a hn) (now .s)) (now .cs) (now .r ∷ now .xs) ends'
       older-moved =
-          subst (λ (x : ℕ). Moved a b ho (p .0 .result) x (now .cs) (front a (mWord a (now .s)) (now .r ∷ now .xs)) (behind a (mWord a (now .s)) (now .r ∷ now .xs)) ends') (f ∙ ap (pUnder a (adjust a hn)) same)
-          (subst (λ (x : ℕ). Moved a b ho (p .0 .result) q (now .cs) (front a x (now .r ∷ now .xs)) (behind a x (now .r ∷ now .xs)) ends') first (move (p .0 .result) (now .cs) (now .r) (now .xs) older-movable))
+          subst (λ (x : ℕ). MovedFront a b ho (p .0 .result) (mWord a (now .s)) x (now .cs) (now .r ∷ now .xs) ends') (f ∙ ap (pUnder a (adjust a hn)) same)
+          (subst (λ (x : ℕ). MovedFront a b ho (p .0 .result) x q (now .cs) (now .r ∷ now .xs) ends') first (move (p .0 .result) (now .cs) (now .r) (now .xs) older-movable))
 
       abbrev result : List ℕ
       result = now .cs ++ front a (mWord a (now .s)) (now .r ∷ now .xs)
@@ -141,7 +141,7 @@ module _ (t : Task) (a b : List ℕ) (ho hn : ℕ) (ends ends' : List ℕ) (w : 
   back = behind a m (at .r ∷ at .xs)
 
   abbrev Moves : Type 0
-  Moves = Moved a b ho (t .result) (pUnder a (adjust a hn) (at .s)) (at .cs) fr back ends'
+  Moves = MovedFront a b ho (t .result) m (pUnder a (adjust a hn) (at .s)) (at .cs) (at .r ∷ at .xs) ends'
 
   abbrev end : ℕ
   end = mWord b (lastWith b 0 (t .result) (at .cs ++ fr))

@@ -25,7 +25,7 @@ use Rattle.searching.specs.Cut.{front, behind}
 use Rattle.searching.proofs.SearchLaws.{front-in}
 use Rattle.searching.proofs.CutLaws.{front-behind}
 use Rattle.dropping.specs.Dropping.{Dropped}
-use Rattle.moving.specs.Advance.{Moved}
+use Rattle.moving.specs.Advance.{MovedFront}
 use Rattle.stepping.specs.Trio.{Roomy}
 use Rattle.stepping.specs.Running.{Waiting, Running}
 use Rattle.stepping.proofs.TrioLaws.{trio-swap, trio-moved, newer-carried, trio-dropped, dropped-older, dropped-result, dropped-newer}
@@ -78,7 +78,7 @@ waiting-swap a ho hn hc xs ys cs ends w =
     }
 
 -- What waits after a run was moved.
-module _ (a b : List ℕ) (ho hn hc key q r : ℕ) (xs ys cs ends ends' : List ℕ) (w : Waiting a ho hn hc (r ∷ xs) ys cs ends) (d : Moved a b ho hc q cs (front a key (r ∷ xs)) (behind a key (r ∷ xs)) ends') where
+module _ (a b : List ℕ) (ho hn hc key q r : ℕ) (xs ys cs ends ends' : List ℕ) (w : Waiting a ho hn hc (r ∷ xs) ys cs ends) (d : MovedFront a b ho hc key q cs (r ∷ xs) ends') where
   pub older-parts : carried a (adjust a ho) (r ∷ xs) ≡ carried a (adjust a ho) (front a key (r ∷ xs)) ++ carried a (leaving a (adjust a ho) (front a key (r ∷ xs))) (behind a key (r ∷ xs))
   older-parts = ap (carried a (adjust a ho)) (front-behind a key (r ∷ xs)) ∙ carried-append a (adjust a ho) (front a key (r ∷ xs)) (behind a key (r ∷ xs))
 
@@ -158,7 +158,7 @@ left-last a b z k h (x ∷ y ∷ rs) (p ∷ q ∷ ps) same e low some =
     ∙ ap (λ (t : ℕ). cond (eqb (mWord b t) (z .item .m)) k (z ∷ k)) (sym (last-here b 0 h x (y ∷ rs) (low .0)))
 
 -- A run of the older list was moved: its records have at least the m of the newer list's first, s.
-module _ (a b : List ℕ) (ho hn hc r s : ℕ) (xs ys cs ends ends' : List ℕ) (all : List Recorded) (run : Running a ho hn hc (r ∷ xs) (s ∷ ys) cs ends all) (tops : mWord a s ≤ mWord a r) (d : Moved a b ho hc (pUnder a (adjust a hn) s) cs (front a (mWord a s) (r ∷ xs)) (behind a (mWord a s) (r ∷ xs)) ends') where
+module _ (a b : List ℕ) (ho hn hc r s : ℕ) (xs ys cs ends ends' : List ℕ) (all : List Recorded) (run : Running a ho hn hc (r ∷ xs) (s ∷ ys) cs ends all) (tops : mWord a s ≤ mWord a r) (d : MovedFront a b ho hc (mWord a s) (pUnder a (adjust a hn) s) cs (r ∷ xs) ends') where
   abbrev fr : List ℕ
   fr = front a (mWord a s) (r ∷ xs)
 
@@ -257,7 +257,7 @@ module _ (a b : List ℕ) (ho hn hc r s : ℕ) (xs ys cs ends ends' : List ℕ) 
       }
 
 -- A run of the newer list was moved: its records have a larger m than the older list's first, r.
-module _ (a b : List ℕ) (ho hn hc r s : ℕ) (xs ys cs ends ends' : List ℕ) (all : List Recorded) (run : Running a ho hn hc (r ∷ xs) (s ∷ ys) cs ends all) (d : Moved a b hn hc (pUnder a (adjust a ho) r) cs (front a (mWord a r + 1) (s ∷ ys)) (behind a (mWord a r + 1) (s ∷ ys)) ends') where
+module _ (a b : List ℕ) (ho hn hc r s : ℕ) (xs ys cs ends ends' : List ℕ) (all : List Recorded) (run : Running a ho hn hc (r ∷ xs) (s ∷ ys) cs ends all) (d : MovedFront a b hn hc (mWord a r + 1) (pUnder a (adjust a ho) r) cs (s ∷ ys) ends') where
   abbrev run-of : List ℕ
   run-of = front a (mWord a r + 1) (s ∷ ys)
 

@@ -16,7 +16,7 @@ use Rattle.searching.proofs.SearchLaws.{falling-right}
 use Rattle.searching.proofs.CutLaws.{front-behind, all-front, all-behind}
 use Rattle.dropping.specs.Dropping.{Dropped}
 use Rattle.splicing.proofs.OpenLaws.{ends-frame}
-use Rattle.moving.specs.Advance.{Movable, Moved}
+use Rattle.moving.specs.Advance.{Movable, MovedFront}
 use Rattle.stepping.specs.Trio.{Trio}
 
 -- The older list and the newer one in each other's place.
@@ -77,7 +77,7 @@ module _ (a b : List ℕ) (g : ℕ) (rs : List ℕ) (long : length b ≡ length 
       (trues-frame a b (adjust a g) (adjust b g) rs (λ k e. head .at (11 + k) (omega arith)) (all-map rs (λ x e. same-value a b x e) each))
 
 -- A run of the older list was moved.
-module _ (a b : List ℕ) (ho hn hc key q r : ℕ) (xs ys cs ends ends' : List ℕ) (t : Trio a ho hn hc (r ∷ xs) ys cs ends) (d : Moved a b ho hc q cs (front a key (r ∷ xs)) (behind a key (r ∷ xs)) ends') where
+module _ (a b : List ℕ) (ho hn hc key q r : ℕ) (xs ys cs ends ends' : List ℕ) (t : Trio a ho hn hc (r ∷ xs) ys cs ends) (d : MovedFront a b ho hc key q cs (r ∷ xs) ends') where
   abbrev fr : List ℕ
   fr = front a key (r ∷ xs)
 
