@@ -1,13 +1,14 @@
 #!/usr/bin/env python3
-"""Writes crates/cases/stdin and stdout: the stored cases of every call, each with its name, and what is expected of them.
+"""Writes what the gate runs the programs on, and what they must print: of crates/cases the stored cases of every call, each
+with its name; of crates/faces and crates/faces_long some faces.
 
     python3 tools/make_cases.py            writes them
     python3 tools/make_cases.py --check    writes nothing, and says whether they are as it would write them
 
 tools/making/ has the files: for the reader and the levels (face_files.py), the list call (list_files.py), the fit call
 (fit_files.py), the text of `faces` (text_files.py); the calls that are made on each file (calls.py); the arenas of the
-reading call (arenas.py); and pseudo-random cases (random_cases.py). What is expected comes from the models. It stops
-where they and an answer that was worked out by hand differ.
+reading call (arenas.py); pseudo-random cases (random_cases.py); and what `faces` is run on (faces_inputs.py). What is
+expected comes from the models. It stops where they and an answer that was worked out by hand differ.
 """
 
 import collections
@@ -16,9 +17,9 @@ import sys
 
 sys.dont_write_bytecode = True
 
-from making import arenas, calls, face_files, fit_files, list_files, random_cases, text_files
+from making import arenas, calls, face_files, faces_inputs, fit_files, list_files, random_cases, text_files
 
-FOLDER = pathlib.Path(__file__).resolve().parent.parent / "crates" / "cases"
+CRATES = pathlib.Path(__file__).resolve().parent.parent / "crates"
 SETS = [face_files, list_files, fit_files, text_files]
 
 # How many pseudo-random cases are stored, and where their row starts.
@@ -72,24 +73,32 @@ def stop_at(faults):
         sys.exit("\n".join(faults))
 
 
+def case_files(cases):
+    """The input and the output of the program `cases`, by their paths below crates/."""
+    output = "".join(case.answer() for case in cases).encode()
+    if len(output) > MOST:
+        sys.exit(f"the output has more than {MOST} bytes")
+    return {"cases/stdin": "".join(case.line() for case in cases).encode(), "cases/stdout": output}
+
+
+def has(path, content):
+    return path.is_file() and path.read_bytes() == content
+
+
 def main():
     stop_at(faults())
     cases = all_cases()
     found = collections.Counter(case.name for case in cases)
     stop_at([f"{name}: two cases have this name" for name, times in found.items() if times > 1])
-    stored = {
-        FOLDER / "stdin": "".join(case.line() for case in cases).encode(),
-        FOLDER / "stdout": "".join(case.answer() for case in cases).encode(),
-    }
-    if len(stored[FOLDER / "stdout"]) > MOST:
-        sys.exit(f"stdout has more than {MOST} bytes")
+    stored = {CRATES / path: content for path, content in (case_files(cases) | faces_inputs.files()).items()}
+    what = f"{len(cases)} cases on {len(names())} files"
     if "--check" in sys.argv[1:]:
-        stop_at([f"{path}: not as this script writes it" for path, text in stored.items() if path.read_bytes() != text])
-        print(f"{len(cases)} cases: the files are as this script writes them")
+        stop_at([f"{path}: not as this script writes it" for path, content in stored.items() if not has(path, content)])
+        print(f"{what}: stored as this script writes them")
         return
-    for path, text in stored.items():
-        path.write_bytes(text)
-    print(f"{len(cases)} cases on {len(names())} files written")
+    for path, content in stored.items():
+        path.write_bytes(content)
+    print(f"{what} written")
 
 
 if __name__ == "__main__":

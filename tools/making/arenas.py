@@ -33,7 +33,7 @@ def record(number, level, m=0, p=0, forwards=(), adjusts=None):
 
 def reads(name, place, answer, *records, length=WORDS):
     """The reading call at a place of an arena of these records."""
-    words = {place: word for found in records for place, word in found.items()}
+    words = {at: word for found in records for at, word in found.items()}
     READINGS.append(Reading(name, read_model.Arena(length, 0, words), place, answer))
 
 
@@ -80,7 +80,7 @@ reads(
     record(2, 1, 50, 40, [1]),
 )
 
-# 512 records, m from 512 down and p from 1 up: 512 times true p 512 is the last.
+# As many records as there can be, m from 512 down and p from 1 up.
 FULL = [head(forwards=[1])] + [record(r, 1, 513 - r, r, [r + 1 if r < 512 else 0]) for r in range(1, 513)]
 reads("512 records, place 1", 1, (0, 512, 1), *FULL)
 reads("512 records, place 512", 512, (0, 1, 512), *FULL)
