@@ -8,10 +8,10 @@ use lib.ListN.{length}
 use Rattle.slicing.specs.Item.{size}
 use Rattle.slicing.specs.Recorded.{Recorded}
 use Rattle.arena.specs.Arena.{mWord}
-use Rattle.arena.specs.Chain.{All, pUnder, after, trues, leaving, Same}
+use Rattle.arena.specs.inside.Chain.{All, pUnder, after, trues, leaving, Same}
 use Rattle.arena.proofs.Frames.{all-map, all-refl, same-value, trues-frame}
 use Rattle.arena.proofs.ListLaws.{trues-append}
-use Rattle.arena.specs.Carried.{paired, carried}
+use Rattle.arena.specs.inside.Carried.{paired, carried}
 
 pub trues-length : (a : List ℕ) (f : ℕ → ℕ) (rs : List ℕ) → length (trues a f rs) ≡ length rs
 unfolding trues

@@ -8,8 +8,8 @@ use native.Mathlib.Omega.{arith}
 use lib.ListN.{length}
 use Rattle.arena.specs.Arena.{stride, word}
 use Rattle.arena.specs.Lazy.{nextWith}
-use Rattle.arena.specs.Chain.{Has, put, Same}
-use Rattle.arena.specs.Building.{Cleared}
+use Rattle.arena.specs.inside.Chain.{Has, put, Same}
+use Rattle.arena.specs.inside.Building.{Cleared}
 use Rattle.arena.proofs.Cases.{last-or-below}
 use Rattle.arena.proofs.PutLaws.{length-put, word-same, word-other-record, word-other-field, put-same, same-refl}
 

@@ -8,12 +8,12 @@ use Rattle.slicing.specs.Item.{size}
 use Rattle.slicing.specs.Recorded.{Recorded}
 use Rattle.arena.specs.Arena.{level, mWord, adjust}
 use Rattle.arena.specs.Lazy.{lastWith, trueP, held}
-use Rattle.arena.specs.Chain.{pUnder, after, trues}
+use Rattle.arena.specs.inside.Chain.{pUnder, after, trues}
 use Rattle.arena.proofs.Cases.{lt-or-ge}
 use Rattle.arena.proofs.PutLaws.{same-refl}
 use Rattle.arena.proofs.ListLaws.{last-more}
 use Rattle.arena.proofs.Frames.{all-refl}
-use Rattle.arena.specs.Carried.{carried}
+use Rattle.arena.specs.inside.Carried.{carried}
 use Rattle.arena.proofs.CarriedLaws.{carried-same}
 
 -- The sums behind the head h and the records before.

@@ -6,8 +6,8 @@ use Prim.Native.Nat.{ℕ, _+_, _-_, _%_, _^_, _≤_, _<_}
 use native.Mathlib.Omega.{arith}
 use lib.ListN.{getD, set}
 use Rattle.arena.specs.Arena.{word, level, adjust}
-use Rattle.arena.specs.Building.{hook1, Hooked}
-use Rattle.arena.specs.Turning.{Turnable1, Renewed}
+use Rattle.arena.specs.inside.Building.{hook1, Hooked}
+use Rattle.arena.specs.inside.Turning.{Turnable1, Renewed}
 use Rattle.arena.proofs.Summing.{Renewing, renewing-start, renewing-more, passing-done}
 use Rattle.arena.proofs.HookLaws.{Prepending, prepending-start, prepending-more, prepending-done}
 

@@ -10,7 +10,7 @@ use lib.Dec.{ltb}
 use borrow.Author.Tests.{lt-ltb, le-ltb}
 use Rattle.arena.specs.Arena.{level, forward, adjust}
 use Rattle.arena.specs.Lazy.{nextWith, lastWith, held}
-use Rattle.arena.specs.Chain.{All, Away, Chain, pUnder, after, trues, leaving}
+use Rattle.arena.specs.inside.Chain.{All, Away, Chain, pUnder, after, trues, leaving}
 use Rattle.arena.proofs.Cases.{lt-or-ge}
 use Rattle.arena.proofs.Frames.{all-map, all-refl, all-both, next-here, next-past}
 

@@ -6,8 +6,8 @@ use Prim.Native.Nat.{ℕ, _%_, _^_, _≤_, _<_}
 use native.Mathlib.Omega.{arith}
 use Rattle.arena.specs.Arena.{level, pWord, forward}
 use Rattle.arena.specs.Lazy.{nextWith}
-use Rattle.arena.specs.Chain.{All, Member, Chain, Linked, pUnder, after, trues, Same, closed}
-use Rattle.arena.specs.Building.{Hooked, Built, Fresh, Prepended}
+use Rattle.arena.specs.inside.Chain.{All, Member, Chain, Linked, pUnder, after, trues, Same, closed}
+use Rattle.arena.specs.inside.Building.{Hooked, Built, Fresh, Prepended}
 use Rattle.arena.proofs.Cases.{lt-or-ge}
 use Rattle.arena.proofs.SumLaws.{sum-zero}
 use Rattle.arena.proofs.Frames.{all-map, all-both, same-shape, same-value, next-here, next-past, next-frame, chain-frame, chain-low, after-in, after-out, trues-frame, lowest-free}

@@ -7,7 +7,7 @@ use native.Mathlib.Omega.{arith}
 use lib.ListN.{length, length-set}
 use lib.Seq.{getD-set-same, getD-set-other, set-getD, set-comm}
 use Rattle.arena.specs.Arena.{stride, word}
-use Rattle.arena.specs.Chain.{Has, put, Same}
+use Rattle.arena.specs.inside.Chain.{Has, put, Same}
 
 module _ (a : List ℕ) (r j v : ℕ) where
   pub length-put : length (put a r j v) ≡ length a

@@ -10,8 +10,8 @@ use lib.Seq.{getD-set-same, getD-set-other}
 use borrow.Author.Tests.{lt-ltb, le-ltb}
 use Rattle.arena.specs.Arena.{word, level, pWord, adjust}
 use Rattle.arena.specs.Lazy.{sumFrom}
-use Rattle.arena.specs.Chain.{pUnder, after}
-use Rattle.arena.specs.Turning.{Summable, Enterable, Suffixes, TrueP, renewed, RenewedBelow, Renewed}
+use Rattle.arena.specs.inside.Chain.{pUnder, after}
+use Rattle.arena.specs.inside.Turning.{Summable, Enterable, Suffixes, TrueP, renewed, RenewedBelow, Renewed}
 use Rattle.arena.proofs.Cases.{lt-or-ge, eq-or-ne}
 use Rattle.arena.proofs.SumLaws.{sum-none, sum-first, sum-agree, sum-zero}
 use Rattle.arena.proofs.Frames.{after-in, after-out}

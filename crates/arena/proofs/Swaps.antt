@@ -6,9 +6,9 @@ use Prim.Native.Nat.{ℕ, _+_, _%_, _^_, _<_}
 use native.Mathlib.Omega.{arith}
 use lib.ListN.{length}
 use Rattle.arena.specs.Arena.{stride, word, level, mWord, pWord}
-use Rattle.arena.specs.Chain.{Has, put, All, pUnder, after, trues, Same}
-use Rattle.arena.specs.Building.{Hooked, Built, Fresh, Prepended}
-use Rattle.arena.specs.Turning.{Suffixes, swapped, TakenOver, Turnable1, TrueP, Renewed}
+use Rattle.arena.specs.inside.Chain.{Has, put, All, pUnder, after, trues, Same}
+use Rattle.arena.specs.inside.Building.{Hooked, Built, Fresh, Prepended}
+use Rattle.arena.specs.inside.Turning.{Suffixes, swapped, TakenOver, Turnable1, TrueP, Renewed}
 use Rattle.arena.proofs.PutLaws.{length-put, word-same, word-other-record, word-other-field, put-swap, same-trans}
 use Rattle.arena.proofs.Frames.{all-map, same-value, built-frame, under-frame, trues-frame}
 use Rattle.arena.proofs.Summing.{passed-kept}

@@ -6,9 +6,9 @@ use Prim.Native.Nat.{ℕ, _+_, _*_, _%_, _^_, _<_}
 use native.Mathlib.Omega.{arith}
 use lib.ListN.{length, getD}
 use Rattle.arena.specs.Arena.{stride, word, level, mWord, adjust}
-use Rattle.arena.specs.Chain.{Has, put, All, Linked, after, trues, Same}
-use Rattle.arena.specs.Building.{Cleared}
-use Rattle.arena.specs.Turning.{Suffixes, Enterable, TakenOver, Turnable1, Turnable, Turned, Renewed}
+use Rattle.arena.specs.inside.Chain.{Has, put, All, Linked, after, trues, Same}
+use Rattle.arena.specs.inside.Building.{Cleared}
+use Rattle.arena.specs.inside.Turning.{Suffixes, Enterable, TakenOver, Turnable1, Turnable, Turned, Renewed}
 use Rattle.arena.proofs.PutLaws.{length-put, word-other-record, word-other-field, same-trans}
 use Rattle.arena.proofs.Frames.{all-map, all-refl, all-both, map-same, same-shape, same-value, linked-frame, trues-frame}
 use Rattle.arena.proofs.ClearLaws.{cleared-first}

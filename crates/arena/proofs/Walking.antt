@@ -7,7 +7,7 @@ use native.Mathlib.Omega.{arith}
 use lib.ListN.{length}
 use Rattle.arena.specs.Arena.{forward}
 use Rattle.arena.specs.Lazy.{nextWith}
-use Rattle.arena.specs.Chain.{Member, Chain, Linked}
+use Rattle.arena.specs.inside.Chain.{Member, Chain, Linked}
 use Rattle.arena.proofs.Frames.{next-here}
 
 -- The records on the walk from record x, of which at most `most` are counted.

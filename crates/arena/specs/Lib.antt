@@ -1,6 +1,3 @@
 pub mod Arena
 pub mod Lazy
-pub mod Chain
-pub mod Building
-pub mod Turning
-pub mod Carried
+pub mod inside

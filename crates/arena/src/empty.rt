@@ -1,6 +1,6 @@
 // The head of an empty list.
-ghost use Rattle.arena.specs.Chain.{Has};
-ghost use Rattle.arena.specs.Building.{Cleared};
+ghost use Rattle.arena.specs.inside.Chain.{Has};
+ghost use Rattle.arena.specs.inside.Building.{Cleared};
 use crate::STRIDE;
 use crate::words::LEVEL;
 use crate::words::store;

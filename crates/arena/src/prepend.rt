@@ -2,7 +2,7 @@
 ghost use mathlib.Core.Path.{_≡_};
 ghost use Prim.Native.Nat.{_≤_, _<_};
 ghost use Rattle.arena.specs.Arena.{level};
-ghost use Rattle.arena.specs.Building.{hook1, Hooked, Hookable};
+ghost use Rattle.arena.specs.inside.Building.{hook1, Hooked, Hookable};
 use crate::words::ADJUST;
 use crate::words::FORWARD;
 use crate::words::LEVEL;

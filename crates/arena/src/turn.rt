@@ -2,9 +2,9 @@
 ghost use mathlib.Core.List.{List};
 ghost use Prim.Native.Nat.{ℕ};
 ghost use Rattle.arena.specs.Arena.{level};
-ghost use Rattle.arena.specs.Chain.{after};
-ghost use Rattle.arena.specs.Building.{Hooked};
-ghost use Rattle.arena.specs.Turning.{Suffixes, TakenOver, Turnable1, Turnable, Turned, Renewed};
+ghost use Rattle.arena.specs.inside.Chain.{after};
+ghost use Rattle.arena.specs.inside.Building.{Hooked};
+ghost use Rattle.arena.specs.inside.Turning.{Suffixes, TakenOver, Turnable1, Turnable, Turned, Renewed};
 use crate::empty::clear_head;
 use crate::prepend::hook;
 use crate::sums::enter;

@@ -2,7 +2,7 @@
 ghost use mathlib.Core.Path.{_≡_};
 ghost use Prim.Native.Nat.{_<_};
 ghost use Rattle.arena.specs.Arena.{stride, word};
-ghost use Rattle.arena.specs.Chain.{Has, put, wrap};
+ghost use Rattle.arena.specs.inside.Chain.{Has, put, wrap};
 use crate::STRIDE;
 
 // "Word 0 is the level, 1 is m, 2 is p, 3 to 10 are forward 1 to 8, 11 to 18 are adjust 1 to 8." Links are counted from 0:

@@ -9,12 +9,12 @@ use lib.ListN.{length}
 use borrow.Author.Tests.{lt-ltb, le-ltb}
 use Rattle.arena.specs.Arena.{stride, word, level, forward, adjust}
 use Rattle.arena.specs.Lazy.{nextWith}
-use Rattle.arena.specs.Chain.{Has, put, All, Member, Linked, after, Same}
-use Rattle.arena.specs.Turning.{Renewed}
+use Rattle.arena.specs.inside.Chain.{Has, put, All, Member, Linked, after, Same}
+use Rattle.arena.specs.inside.Turning.{Renewed}
 use Rattle.arena.proofs.Cases.{lt-or-ge, eq-or-ne, last-or-below}
 use Rattle.arena.proofs.PutLaws.{length-put, word-same, word-other-record, word-other-field, same-put, same-refl, same-trans}
 use Rattle.arena.proofs.Frames.{next-here, next-past, all-map, same-shape, same-value, next-frame, chain-frame, trues-frame}
-use Rattle.dropping.specs.Dropping.{handed, handedOver, Dropped, DroppedTied}
+use Rattle.dropping.specs.inside.Dropping.{handed, handedOver, Dropped, DroppedTied}
 
 -- One link.
 module _ (a : List ℕ) (h r k : ℕ) (other : r ≡ h → ⊥) (has : Has a h) (small : k < 8) where

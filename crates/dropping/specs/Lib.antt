@@ -1,1 +1,1 @@
-pub mod Dropping
+pub mod inside

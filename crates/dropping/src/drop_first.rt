@@ -2,8 +2,8 @@
 ghost use mathlib.Core.Path.{_≡_};
 ghost use mathlib.Core.List.{List, _∷_};
 ghost use Prim.Native.Nat.{ℕ, _<_};
-ghost use Rattle.arena.specs.Chain.{Has, Linked};
-ghost use Rattle.dropping.specs.Dropping.{handed, Dropped};
+ghost use Rattle.arena.specs.inside.Chain.{Has, Linked};
+ghost use Rattle.dropping.specs.inside.Dropping.{handed, Dropped};
 use arena::words::ADJUST;
 use arena::words::FORWARD;
 use arena::words::LEVEL;

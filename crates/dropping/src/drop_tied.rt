@@ -1,5 +1,5 @@
 // The leaving of a list's first record where the result has ended at its m.
-ghost use Rattle.dropping.specs.Dropping.{Tied, DroppedTied};
+ghost use Rattle.dropping.specs.inside.Dropping.{Tied, DroppedTied};
 use crate::drop_first::drop_first;
 use arena::sums::pass;
 use arena::words::M;

@@ -5,7 +5,7 @@ use mathlib.Core.Bool.{not}
 use Prim.Native.Nat.{ℕ}
 use lib.Dec.{eqb}
 use borrow.Author.Tests.{eq-eqb, ne-eqb}
-use Rattle.facefile.specs.Kinds.{across}
+use Rattle.facefile.specs.inside.Kinds.{across}
 
 pub across-stacked : (part join : ℕ) → join ≡ 0x03 → not (eqb part 0x03) ≡ across part join
 unfolding across

@@ -18,7 +18,7 @@ use Rattle.facefile.specs.declared.Step.{Step}
 use Rattle.facefile.specs.declared.Step.the-variants.{Stop, Next}
 use Rattle.facefile.specs.Format.{State, field, within, marked, header, start, entry, entries, onePart, atEnd, faceOf}
 use Rattle.facefile.specs.Summary.{refusedFace, summary}
-use Rattle.facefile.specs.Tracking.{flat, Fair, Tracks, Follows, Does, Ends}
+use Rattle.facefile.specs.inside.Tracking.{flat, Fair, Tracks, Follows, Does, Ends}
 use Rattle.facefile.proofs.Taken.{header-taken}
 
 -- The first three bytes are `FCE` exactly where the definition's test says so.

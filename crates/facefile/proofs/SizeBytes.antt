@@ -10,7 +10,7 @@ use Rattle.checks.specs.Answer.{taken}
 use Rattle.slicing.specs.Item.{Item}
 use Rattle.facefile.specs.Format.{sizeAt, sizesFrom}
 use Rattle.facefile.specs.Gauge.{sizeBytes}
-use Rattle.facefile.specs.Sizes.{sizesIn, Sized}
+use Rattle.facefile.specs.inside.Sizes.{sizesIn, Sized}
 use Rattle.facefile.proofs.SizesIn.{from-in}
 
 -- Every element is a byte.

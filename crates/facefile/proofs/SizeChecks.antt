@@ -12,7 +12,7 @@ use lib.Seq.{drop-drop, getD-drop}
 use Rattle.checks.specs.Check.{Limits, Order}
 use Rattle.checks.specs.Answer.{Answer, refused, taken, ask, next, number}
 use Rattle.slicing.specs.Item.{Item, size}
-use Rattle.facefile.specs.Tracking.{sizeNumber}
+use Rattle.facefile.specs.inside.Tracking.{sizeNumber}
 use Rattle.facefile.specs.Format.{field, within, limited, ordered, sizeAt, sizesAfter, sizesFrom}
 
 -- Answers of `a && b`: where a holds it is b, and where it does not it is a.

@@ -11,7 +11,7 @@ use Rattle.checks.specs.Answer.{taken}
 use Rattle.checks.proofs.Answers.{same-taken, ask-taken, next-taken}
 use Rattle.slicing.specs.Item.{Item, size}
 use Rattle.facefile.specs.Format.{field, sizeAt, limited, ordered, sizesAfter, sizesFrom}
-use Rattle.facefile.specs.Sizes.{sizesIn, SizeIn}
+use Rattle.facefile.specs.inside.Sizes.{sizesIn, SizeIn}
 use Rattle.facefile.proofs.SizeChecks.{size-at}
 
 after-in : (y : Item) (k : ℕ) (bytes : List ℕ) (z : List Item) → sizesAfter y k bytes ≡ taken z → z ≡ sizesIn k bytes

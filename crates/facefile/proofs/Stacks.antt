@@ -5,8 +5,8 @@ use mathlib.Core.List.{List, [], _∷_, _++_, append-nil, append-assoc}
 use Prim.Native.Nat.{ℕ}
 use Rattle.slicing.specs.Tree.{Tree, gauge, beside, stacked, gaugesOf, sizesOf}
 use Rattle.facefile.specs.Format.{State}
-use Rattle.facefile.specs.Tracking.{flat}
-use Rattle.facefile.specs.Kinds.{Cut, cut-beside, cut-stacked}
+use Rattle.facefile.specs.inside.Tracking.{flat}
+use Rattle.facefile.specs.inside.Kinds.{Cut, cut-beside, cut-stacked}
 use Rattle.facefile.proofs.Took.{Took, took-gauge, took-join, Reads, reads-none, reads-more}
 
 -- f makes of a join the lists of its parts, one after the other.

@@ -15,8 +15,8 @@ use Rattle.slicing.specs.Tree.{Tree, gaugesOf, gaugeCount, sizeCount}
 use Rattle.slicing.specs.Good.{Good}
 use Rattle.slicing.proofs.Counts.{counted}
 use Rattle.facefile.specs.Format.{State, field, within, marked, header, start, entries, onePart, atEnd, faceOf}
-use Rattle.facefile.specs.Tracking.{flat}
-use Rattle.facefile.specs.Kinds.{Cut, cut-beside, cut-stacked}
+use Rattle.facefile.specs.inside.Tracking.{flat}
+use Rattle.facefile.specs.inside.Kinds.{Cut, cut-beside, cut-stacked}
 use Rattle.facefile.proofs.Took.{state, within-true, Took, took-gauge, took-join, Reads, reads-none, reads-more, entries-read}
 use Rattle.facefile.proofs.GoodSizes.{sizes-good}
 use Rattle.facefile.proofs.Stacks.{join-flat, gauges-join}

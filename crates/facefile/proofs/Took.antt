@@ -12,7 +12,7 @@ use Rattle.checks.specs.Answer.{refused, taken}
 use Rattle.checks.proofs.Answers.{not-both, same-taken, ask-taken, next-taken}
 use Rattle.slicing.specs.Item.{Item}
 use Rattle.slicing.specs.Tree.{Tree, gauge, beside, stacked}
-use Rattle.facefile.specs.Kinds.{Cut, cut-beside, cut-stacked}
+use Rattle.facefile.specs.inside.Kinds.{Cut, cut-beside, cut-stacked}
 use Rattle.facefile.specs.Format.{State, skip, within, sizesFrom, gaugeTaken, gaugeSizes, gaugeEntry, joinParts, joinEntry, kindEntry, entry, entries}
 
 abbrev pub state : List ℕ → List Tree → ℕ → State

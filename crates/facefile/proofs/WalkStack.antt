@@ -11,8 +11,8 @@ use Rattle.slicing.specs.Tree.{Tree, gaugesOf, sizesOf, gaugeCount, sizeCount}
 use Rattle.slicing.specs.Good.{Good}
 use Rattle.slicing.proofs.Depths.{depth-few}
 use Rattle.facefile.specs.Format.{start, faceOf}
-use Rattle.facefile.specs.Tracking.{flat}
-use Rattle.facefile.specs.Walk.{stateAt, Walk, JoinAt}
+use Rattle.facefile.specs.inside.Tracking.{flat}
+use Rattle.facefile.specs.inside.Walk.{stateAt, Walk, JoinAt}
 use Rattle.facefile.proofs.Took.{state, entries-read}
 use Rattle.facefile.proofs.Stacks.{Joins, reads-flat, sizes-join}
 use Rattle.facefile.proofs.Taken.{GoodParts, Sound, start-sound, reads-sound}

@@ -15,9 +15,9 @@ use Rattle.facefile.specs.declared.walk.GaugeEntry.{GaugeEntry}
 use Rattle.facefile.specs.declared.walk.Entry.{Entry}
 use Rattle.facefile.specs.declared.walk.Entry.the-variants.{Gauge, Join}
 use Rattle.facefile.specs.Format.{State, start, entry, entries, atEnd, faceOf, header}
-use Rattle.facefile.specs.Kinds.{Cut, cut-beside, cut-stacked}
-use Rattle.facefile.specs.Sizes.{sizesIn}
-use Rattle.facefile.specs.Walk.{firstEntry, stateAt, Walk, sizeBytesOf, GaugeAt, JoinAt, EntryAt, Finds}
+use Rattle.facefile.specs.inside.Kinds.{Cut, cut-beside, cut-stacked}
+use Rattle.facefile.specs.inside.Sizes.{sizesIn}
+use Rattle.facefile.specs.inside.Walk.{firstEntry, stateAt, Walk, sizeBytesOf, GaugeAt, JoinAt, EntryAt, Finds}
 use Rattle.facefile.proofs.Took.{state, Took, took-gauge, took-join, entry-took, Reads, reads-none, reads-more}
 use Rattle.facefile.proofs.SizesIn.{from-in, in-same}
 use Rattle.facefile.proofs.Taken.{header-taken, end-taken, end-read}

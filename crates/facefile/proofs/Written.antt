@@ -9,8 +9,8 @@ use Rattle.slicing.specs.Item.{Item}
 use Rattle.slicing.specs.Tree.{Tree, gauge, beside, stacked}
 use Rattle.facefile.specs.Format.{State, field, start, sizesFrom, faceOf}
 use Rattle.facefile.specs.Gauge.{sizeBytes}
-use Rattle.facefile.specs.Tracking.{flat}
-use Rattle.facefile.specs.Kinds.{Cut, cut-beside, cut-stacked}
+use Rattle.facefile.specs.inside.Tracking.{flat}
+use Rattle.facefile.specs.inside.Kinds.{Cut, cut-beside, cut-stacked}
 use Rattle.facefile.proofs.Took.{state, Took, took-gauge, took-join, Reads, reads-none, reads-more}
 use Rattle.facefile.proofs.GoodSizes.{sizes-good}
 use Rattle.facefile.proofs.SizeBytes.{Bytes, bytes-drop, sizes-bytes}

@@ -1,8 +1,4 @@
 pub mod Format
 pub mod Gauge
 pub mod Summary
-pub mod Tracking
-pub mod Finding
-pub mod Kinds
-pub mod Sizes
-pub mod Walk
+pub mod inside

@@ -4,7 +4,7 @@ ghost use mathlib.Core.Path.{_≡_};
 ghost use Prim.Native.Nat.{_+_, _<_, _^_};
 ghost use Rattle.slicing.specs.Tree.{beside, stacked};
 ghost use Rattle.facefile.specs.Format.{joinEntry, entry};
-ghost use Rattle.facefile.specs.Tracking.{Fair, Does, advance};
+ghost use Rattle.facefile.specs.inside.Tracking.{Fair, Does, advance};
 use crate::BESIDE;
 use crate::Cursor;
 use crate::GAUGE;

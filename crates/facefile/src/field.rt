@@ -4,7 +4,7 @@ ghost use Prim.Native.Nat.{ℕ, _+_, _<_, _≤_};
 ghost use lib.ListN.{length, drop};
 ghost use Rattle.facefile.specs.Format.{field, within, sizeAt};
 ghost use Rattle.slicing.specs.Item.{size};
-ghost use Rattle.facefile.specs.Sizes.{Sized, SizeIn};
+ghost use Rattle.facefile.specs.inside.Sizes.{Sized, SizeIn};
 use crate::Size;
 
 // A byte as a wider number.

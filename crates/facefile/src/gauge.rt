@@ -1,6 +1,6 @@
 // A gauge entry, after its kind byte.
 ghost use Rattle.facefile.specs.Format.{gaugeEntry};
-ghost use Rattle.facefile.specs.Tracking.{Fair, Does};
+ghost use Rattle.facefile.specs.inside.Tracking.{Fair, Does};
 use crate::Cursor;
 use crate::Step;
 use crate::entry::advanced;

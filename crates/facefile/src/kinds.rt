@@ -1,6 +1,6 @@
 // The kinds of parts.
 ghost use mathlib.Core.Path.{_≡_};
-ghost use Rattle.facefile.specs.Kinds.{across};
+ghost use Rattle.facefile.specs.inside.Kinds.{across};
 use crate::STACKED;
 
 // Whether a part of one kind runs the other way than a join of the other kind: stacked parts run by width, all others

@@ -5,7 +5,7 @@ ghost use lib.ListN.{length};
 ghost use Rattle.checks.specs.Answer.{number};
 ghost use Rattle.facefile.specs.Format.{header, entries, start, faceOf};
 ghost use Rattle.facefile.specs.Summary.{refusedFace, summary};
-ghost use Rattle.facefile.specs.Tracking.{Fair, Follows, Ends};
+ghost use Rattle.facefile.specs.inside.Tracking.{Fair, Follows, Ends};
 use crate::Cursor;
 use crate::Face;
 use crate::Step;

@@ -5,7 +5,7 @@ ghost use Rattle.checks.specs.Answer.{taken};
 ghost use Rattle.slicing.specs.Tree.{Tree};
 ghost use Rattle.facefile.specs.Format.{faceOf};
 ghost use Rattle.facefile.specs.Gauge.{gaugeBytes};
-ghost use Rattle.facefile.specs.Finding.{Found};
+ghost use Rattle.facefile.specs.inside.Finding.{Found};
 use crate::Stretch;
 use crate::reader::read;
 use crate::walk::Entry;

@@ -4,7 +4,7 @@ ghost use Prim.Native.Nat.{_+_, _*_, _≤_, _<_};
 ghost use lib.ListN.{length, drop};
 ghost use Rattle.checks.specs.Answer.{number};
 ghost use Rattle.slicing.specs.Item.{size};
-ghost use Rattle.facefile.specs.Tracking.{sizeNumber, Fair, Does};
+ghost use Rattle.facefile.specs.inside.Tracking.{sizeNumber, Fair, Does};
 ghost use Rattle.facefile.specs.Format.{limited, ordered, sizesFrom, gaugeSizes};
 use crate::Cursor;
 use crate::Size;

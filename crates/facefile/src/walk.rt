@@ -4,7 +4,7 @@ ghost use Prim.Native.Nat.{_<_};
 ghost use mathlib.Core.List.{List};
 ghost use lib.ListN.{length};
 ghost use Rattle.slicing.specs.Tree.{Tree};
-ghost use Rattle.facefile.specs.Walk.{Walk, Finds};
+ghost use Rattle.facefile.specs.inside.Walk.{Walk, Finds};
 use crate::GAUGE;
 
 // Where the first entry begins.

@@ -19,21 +19,21 @@ use Rattle.slicing.proofs.ShapeLaws.{shapes-short}
 use Rattle.facefile.specs.Format.{faceOf}
 use Rattle.facefile.proofs.Taken.{face-taken}
 use Rattle.lent.specs.Lent.{writtenOver}
-use Rattle.stored.specs.Packed.{facing, ownShapes, HasList}
-use Rattle.stored.specs.Store.{Stored}
-use Rattle.stored.specs.Filling.{stretchOf, Filled}
+use Rattle.stored.specs.inside.Packed.{facing, ownShapes, HasList}
+use Rattle.stored.specs.inside.Store.{Stored}
+use Rattle.stored.specs.inside.Filling.{stretchOf, Filled}
 use Rattle.stored.specs.declared.merge.Stretch.{Stretch}
 use Rattle.stored.proofs.StoredLists.{m-is, p-is}
 use Rattle.stored.proofs.OwnLists.{own-length}
-use Rattle.picking.specs.Picking.{pickAt, Picks}
+use Rattle.picking.specs.inside.Picking.{pickAt, Picks}
 use Rattle.picking.proofs.Looking.{product-low}
-use Rattle.laying.specs.Laying.{shapeAt, Layable, laid}
+use Rattle.laying.specs.inside.Laying.{shapeAt, Layable, laid}
 use Rattle.laying.proofs.StretchLaws.{stretch-ready, stretch-list, stretch-count, stretch-facing}
 use Rattle.laying.proofs.ShapeReading.{Place, shape-low}
 use Rattle.laying.proofs.GaugeLaws.{Word, Ready, Lays, root-layable}
 use Rattle.fit.specs.declared.Fitted.{Fitted}
 use Rattle.fit.specs.Fitting.{noFace, faceFound, faceWords}
-use Rattle.fit.specs.Facing.{Placeable, PlacedIn}
+use Rattle.fit.specs.inside.Facing.{Placeable, PlacedIn}
 
 pub area-fits : (h w : ℕ) → h < 65_536 → w < 65_536 → h * w < 2 ^ 32
 area-fits h w low-h low-w = let area = product-low h w low-h low-w in omega arith

@@ -26,11 +26,11 @@ use Rattle.lent.specs.Lent.{Lent, lent}
 use Rattle.lent.specs.Questions.{levelsLent, openingGiven, buffersLent, outputLent}
 use Rattle.lent.proofs.Asking.{Levelled, levels-taken, buffers-taken, output-taken, levels-refused, opening-refused, buffers-refused, output-refused}
 use Rattle.lent.proofs.Calling.{call-refused, counts, asked-of-counts, refused-by-file, refused-by-asked, asked-taken, taken-by-all}
-use Rattle.parts.specs.Building.{Buildable, Whole}
+use Rattle.parts.specs.inside.Building.{Buildable, Whole}
 use Rattle.shapes.proofs.RootLaws.{root-list}
 use Rattle.fit.specs.declared.Fitted.{Fitted}
 use Rattle.fit.specs.Fitting.{fitAsks, fitChecks, noFace, faceFound, faceWords}
-use Rattle.fit.specs.Facing.{Placeable, PlacedIn}
+use Rattle.fit.specs.inside.Facing.{Placeable, PlacedIn}
 use Rattle.fit.specs.Demand3.{Demand3}
 use Rattle.fit.specs.Promise.{FitLeaves}
 

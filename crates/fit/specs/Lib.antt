@@ -1,4 +1,4 @@
 pub mod Fitting
 pub mod Demand3
 pub mod Promise
-pub mod Facing
+pub mod inside

@@ -6,7 +6,7 @@ ghost use Rattle.slicing.specs.Layout.{outline};
 ghost use Rattle.facefile.specs.Format.{faceOf};
 ghost use Rattle.lent.specs.Lent.{lent};
 ghost use Rattle.fit.specs.Fitting.{fitAsks, noFace};
-ghost use Rattle.fit.specs.Facing.{Placeable, PlacedIn};
+ghost use Rattle.fit.specs.inside.Facing.{Placeable, PlacedIn};
 ghost use Rattle.fit.specs.Promise.{FitPromise};
 use crate::Fitted;
 use laying::lay::item_at;

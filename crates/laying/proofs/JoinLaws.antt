@@ -19,11 +19,11 @@ use Rattle.slicing.proofs.Counts.{gauges-joined}
 use Rattle.slicing.proofs.ShapeLaws.{shapes-ordered}
 use Rattle.slicing.proofs.TurnLaws.{turn-ordered, turn-out}
 use Rattle.slicing.proofs.Placing.{Sides, sides}
-use Rattle.stored.specs.Packed.{facing}
-use Rattle.stored.specs.Store.{Stored}
+use Rattle.stored.specs.inside.Packed.{facing}
+use Rattle.stored.specs.inside.Store.{Stored}
 use Rattle.stored.proofs.StoredLists.{place-in}
-use Rattle.laying.specs.Taking.{facingItem}
-use Rattle.laying.specs.Laying.{shapeAt, movedBy, Layable}
+use Rattle.laying.specs.inside.Taking.{facingItem}
+use Rattle.laying.specs.inside.Laying.{shapeAt, movedBy, Layable}
 
 -- What a part takes for the item z of the whole.
 abbrev pub side : Bool → Item → Tree → Item

@@ -7,8 +7,8 @@ use Prim.Native.Nat.{ℕ, _+_, _-_, _/_, _≤_, _<_}
 use native.Mathlib.Omega.{arith}
 use lib.ListN.{length, getD}
 use Rattle.slicing.specs.Item.{Item, size}
-use Rattle.stored.specs.Packed.{facing, HasList}
-use Rattle.laying.specs.Taking.{Searchable, FirstLow}
+use Rattle.stored.specs.inside.Packed.{facing, HasList}
+use Rattle.laying.specs.inside.Taking.{Searchable, FirstLow}
 use Rattle.stored.proofs.Reading.{ItemWord}
 use Rattle.stored.proofs.StoredLists.{facing-length, facing-low, m-is}
 use Rattle.laying.proofs.OrderLaws.{above-to, first-low, last-low, facing-ordered}

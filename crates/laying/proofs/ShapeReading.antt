@@ -9,14 +9,14 @@ use lib.ListN.{length, getD}
 use Rattle.slicing.specs.Item.{Item, size}
 use Rattle.slicing.specs.Tree.{Tree}
 use Rattle.slicing.specs.Shapes.{shapes}
-use Rattle.stored.specs.Packed.{pack, ownShapes, HasList}
-use Rattle.stored.specs.Store.{Stored}
-use Rattle.stored.specs.Filling.{stretchOf}
+use Rattle.stored.specs.inside.Packed.{pack, ownShapes, HasList}
+use Rattle.stored.specs.inside.Store.{Stored}
+use Rattle.stored.specs.inside.Filling.{stretchOf}
 use Rattle.stored.specs.declared.merge.Stretch.{Stretch}
 use Rattle.stored.proofs.Reading.{ItemWord}
 use Rattle.stored.proofs.StoredLists.{Low, facing-low}
 use Rattle.stored.proofs.OwnLists.{own-length}
-use Rattle.laying.specs.Laying.{shapeAt}
+use Rattle.laying.specs.inside.Laying.{shapeAt}
 use Rattle.laying.proofs.StretchLaws.{stretch-ready, stretch-list, stretch-count, stretch-facing}
 
 -- A stored part, and a place of its shape list.

@@ -15,14 +15,14 @@ use Rattle.slicing.specs.Shapes.{shapes}
 use Rattle.slicing.proofs.Depths.{depth-few}
 use Rattle.slicing.proofs.ShapeLaws.{shapes-ordered}
 use Rattle.slicing.proofs.TurnLaws.{turn-ordered}
-use Rattle.facefile.specs.Kinds.{kindOf, across}
-use Rattle.stored.specs.Packed.{facing, ownShapes, HasList}
-use Rattle.stored.specs.Store.{Stored}
-use Rattle.stored.specs.Joining.{readAs}
-use Rattle.stored.specs.Filling.{stretchOf}
+use Rattle.facefile.specs.inside.Kinds.{kindOf, across}
+use Rattle.stored.specs.inside.Packed.{facing, ownShapes, HasList}
+use Rattle.stored.specs.inside.Store.{Stored}
+use Rattle.stored.specs.inside.Joining.{readAs}
+use Rattle.stored.specs.inside.Filling.{stretchOf}
 use Rattle.stored.specs.declared.merge.Stretch.{Stretch}
 use Rattle.stored.proofs.OwnLists.{entry-of, own-beside, own-stacked, kind-low}
-use Rattle.laying.specs.Taking.{joinKind}
+use Rattle.laying.specs.inside.Taking.{joinKind}
 
 -- A word that is not 0 is inside.
 word-inside : (s : List ℕ) (i : ℕ) → 1 ≤ getD s i 0 → i < length s

@@ -11,13 +11,13 @@ use Rattle.slicing.specs.Tree.{Tree}
 use Rattle.slicing.specs.Shapes.{shapes}
 use Rattle.slicing.specs.Merge.{swap}
 use Rattle.slicing.specs.Fit.{noTaller}
-use Rattle.stored.specs.Packed.{facing, ownShapes, HasList}
-use Rattle.stored.specs.Filling.{stretchOf}
+use Rattle.stored.specs.inside.Packed.{facing, ownShapes, HasList}
+use Rattle.stored.specs.inside.Filling.{stretchOf}
 use Rattle.stored.specs.declared.merge.Stretch.{Stretch}
 use Rattle.stored.proofs.Reading.{turn-at, ItemWord}
 use Rattle.stored.proofs.StoredLists.{facing-length, facing-low, p-is}
 use Rattle.stored.proofs.OwnLists.{own-length}
-use Rattle.laying.specs.Taking.{HasLow, Searchable, FirstLow, facingItem, joinKind, Takable, Takes}
+use Rattle.laying.specs.inside.Taking.{HasLow, Searchable, FirstLow, facingItem, joinKind, Takable, Takes}
 use Rattle.laying.proofs.StretchLaws.{stretch-ready, stretch-list, stretch-count, stretch-facing, own-ordered}
 
 turned-at : (upward : Bool) (l : List Item) (count k : ℕ) → upward ≡ true → count ≡ length l → k < length l → getD (facing upward l) k (size 0 0) ≡ facingItem upward (getD l (count - 1 - k) (size 0 0))

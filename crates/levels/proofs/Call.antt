@@ -19,9 +19,9 @@ use Rattle.lent.specs.Questions.{levelCount}
 use Rattle.lent.proofs.Asking.{count-taken}
 use Rattle.lent.proofs.Calling.{counts, refused-by-file, refused-by-asked, asked-taken, taken-by-all}
 use Rattle.levels.specs.declared.depths.Depths.{Depths}
-use Rattle.levels.specs.Deep.{Deep}
+use Rattle.levels.specs.inside.Deep.{Deep}
 use Rattle.levels.specs.Levels.{topLevel, levelsFrom, levelsOf, levelsCall, levelsFilled}
-use Rattle.levels.specs.Taken.{Fillable, OwnLevels}
+use Rattle.levels.specs.inside.Taken.{Fillable, OwnLevels}
 
 -- What the calls that fill the buffer ask for, and what they leave.
 module _ (file : List ℕ) (room : ℕ) (k : Fillable file room) where

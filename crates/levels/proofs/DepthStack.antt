@@ -14,13 +14,13 @@ use Rattle.facefile.specs.declared.walk.GaugeEntry.{GaugeEntry}
 use Rattle.facefile.specs.declared.walk.Entry.{Entry}
 use Rattle.facefile.specs.declared.walk.Entry.the-variants.{Gauge, Join}
 use Rattle.facefile.specs.Format.{faceOf}
-use Rattle.facefile.specs.Kinds.{Cut, cut-beside, cut-stacked}
-use Rattle.facefile.specs.Sizes.{sizesIn}
-use Rattle.facefile.specs.Walk.{firstEntry, Walk, sizeBytesOf, GaugeAt, JoinAt, Finds}
+use Rattle.facefile.specs.inside.Kinds.{Cut, cut-beside, cut-stacked}
+use Rattle.facefile.specs.inside.Sizes.{sizesIn}
+use Rattle.facefile.specs.inside.Walk.{firstEntry, Walk, sizeBytesOf, GaugeAt, JoinAt, Finds}
 use Rattle.facefile.proofs.PartArray.{Held, held-push, push-held}
 use Rattle.facefile.proofs.WalkSteps.{walk-start, walk-end, found-gauge, found-join}
 use Rattle.facefile.proofs.WalkStack.{walk-parts, walk-face, join-gauges}
-use Rattle.levels.specs.Deep.{Deep, Room, joinedAt}
+use Rattle.levels.specs.inside.Deep.{Deep, Room, joinedAt}
 
 -- f of a join is one more than g of f of its parts.
 abbrev Joins : (Tree → ℕ) → (ℕ → ℕ → ℕ) → Type 0

@@ -1,3 +1,2 @@
 pub mod Levels
-pub mod Deep
-pub mod Taken
+pub mod inside

@@ -11,7 +11,7 @@ ghost use lib.ListN.{length};
 ghost use Rattle.checks.specs.Answer.{number};
 ghost use Rattle.facefile.specs.Format.{faceOf};
 ghost use Rattle.levels.specs.Levels.{uncutLevel, topLevel, levelsFrom, levelsCall, levelsFilled};
-ghost use Rattle.levels.specs.Taken.{Fillable, OwnLevels};
+ghost use Rattle.levels.specs.inside.Taken.{Fillable, OwnLevels};
 
 // The level of size r before it is cut to the top level, for a size of a face.
 fn uncut_level(r: usize) -> u8

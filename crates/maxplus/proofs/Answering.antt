@@ -16,7 +16,7 @@ use Rattle.maxplus.specs.declared.Reading.{Reading}
 use Rattle.arena.specs.Arena.{level, forward}
 use Rattle.arena.specs.Lazy.{lastWith, held, walk, linksRight, linked, falling, lazyList}
 use Rattle.maxplus.specs.Read.{readItem, reading}
-use Rattle.maxplus.specs.Pass.{refusedReading, readAt}
+use Rattle.maxplus.specs.inside.Pass.{refusedReading, readAt}
 use Rattle.maxplus.proofs.Following.{each, links-each, links-all, Under, Rest}
 
 -- Every refusal of a list is by check 20.

@@ -12,7 +12,7 @@ use Rattle.slicing.specs.Good.{Ordered}
 use Rattle.slicing.specs.Recorded.{Recorded, items}
 use Rattle.arena.specs.Arena.{level, forward}
 use Rattle.arena.specs.Lazy.{nextWith, lastWith, held, walk, linksRight, linked, falling, lazyList}
-use Rattle.arena.specs.Chain.{All, Chain, Linked}
+use Rattle.arena.specs.inside.Chain.{All, Chain, Linked}
 use Rattle.arena.proofs.Walking.{next-none, next-first, next-second}
 use Rattle.maxplus.proofs.Following.{each, links-all, walk-back, walk-stops}
 use Rattle.maxplus.proofs.Answering.{under-first, rest-lazy}

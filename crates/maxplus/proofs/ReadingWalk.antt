@@ -16,14 +16,14 @@ use Rattle.maxplus.specs.declared.Reading.{Reading}
 use Rattle.maxplus.specs.declared.read_list.Item.{Item as Read}
 use Rattle.arena.specs.Arena.{word, level, mWord, adjust}
 use Rattle.arena.specs.Lazy.{lastWith, trueP, held, lazyList}
-use Rattle.arena.specs.Chain.{pUnder, after}
-use Rattle.arena.specs.Turning.{Summable, Enterable, Suffixes, TrueP, Renewed}
+use Rattle.arena.specs.inside.Chain.{pUnder, after}
+use Rattle.arena.specs.inside.Turning.{Summable, Enterable, Suffixes, TrueP, Renewed}
 use Rattle.arena.proofs.Cases.{lt-or-ge}
 use Rattle.arena.proofs.Summing.{suffixes-agree}
 use Rattle.arena.proofs.ListLaws.{held-length}
 use Rattle.arena.proofs.HeldLaws.{passedSums, sums-on}
 use Rattle.maxplus.specs.Read.{readItem, reading}
-use Rattle.maxplus.specs.Pass.{refusedReading, readAt, Decides, Stands, Are, Passed, Follows}
+use Rattle.maxplus.specs.inside.Pass.{refusedReading, readAt, Decides, Stands, Are, Passed, Follows}
 use Rattle.maxplus.proofs.Decisions.{decided, refuted}
 use Rattle.maxplus.proofs.Following.{due, due-here, due-past, Rest, Meets, Turn, turn, turn-back, rest-full, rest-over, rest-none}
 use Rattle.maxplus.proofs.Answering.{lazy-rest, rest-lazy, no-list, list-read}

@@ -10,23 +10,23 @@ use Rattle.slicing.specs.Good.{Ordered}
 use Rattle.slicing.specs.Recorded.{Recorded, mergeRecorded, items}
 use Rattle.arena.specs.Arena.{mWord, adjust}
 use Rattle.arena.specs.Lazy.{held}
-use Rattle.arena.specs.Chain.{All, Away, Linked, Same, pUnder, after, trues}
-use Rattle.arena.specs.Building.{Built, Cleared}
-use Rattle.arena.specs.Turning.{Suffixes}
-use Rattle.arena.specs.Carried.{carried}
+use Rattle.arena.specs.inside.Chain.{All, Away, Linked, Same, pUnder, after, trues}
+use Rattle.arena.specs.inside.Building.{Built, Cleared}
+use Rattle.arena.specs.inside.Turning.{Suffixes}
+use Rattle.arena.specs.inside.Carried.{carried}
 use Rattle.arena.proofs.Frames.{all-map, all-both, all-refl, same-shape, linked-frame, trues-frame}
 use Rattle.arena.proofs.PutLaws.{same-trans}
 use Rattle.arena.proofs.Summing.{suffixes-none, suffixes-agree}
 use Rattle.arena.proofs.CarriedLaws.{carried-frame, carried-same}
 use Rattle.arena.proofs.HeldLaws.{held-carried}
-use Rattle.searching.specs.Cut.{Falling, Searchable}
-use Rattle.splicing.specs.Open.{OpenLinked, EndsOf, Closed, lastSums}
+use Rattle.searching.specs.inside.Cut.{Falling, Searchable}
+use Rattle.splicing.specs.inside.Open.{OpenLinked, EndsOf, Closed, lastSums}
 use Rattle.splicing.proofs.OpenLaws.{open-empty, ends-filled}
 use Rattle.splicing.proofs.ClosingLaws.{closed-value, closed-same}
-use Rattle.stepping.specs.Trio.{Kept, Roomy, Trio}
-use Rattle.stepping.specs.Running.{Task, Underway}
-use Rattle.merging.specs.Runs.{Finished, RunsReady, RunsDone}
-use Rattle.merging.specs.Merge.{Mergeable, Merged}
+use Rattle.stepping.specs.inside.Trio.{Kept, Roomy, Trio}
+use Rattle.stepping.specs.inside.Running.{Task, Underway}
+use Rattle.merging.specs.inside.Runs.{Finished, RunsReady, RunsDone}
+use Rattle.merging.specs.inside.Merge.{Mergeable, Merged}
 
 -- The m of an ordered list falls.
 below-first : (a : List ℕ) (f : ℕ → ℕ) (m : ℕ) (rs : List ℕ) → ((z : Item) → List·Memᴰ z (items (carried a f rs)) → z .m < m) → All (λ x. mWord a x < m) rs

@@ -10,14 +10,14 @@ use lib.ListN.{length}
 use borrow.Author.Tests.{leb-true, le-leb, lt-leb}
 use Rattle.slicing.specs.Recorded.{Recorded, mergeRecorded}
 use Rattle.arena.specs.Arena.{word, forward, adjust}
-use Rattle.arena.specs.Chain.{Linked, trues}
-use Rattle.arena.specs.Carried.{carried}
+use Rattle.arena.specs.inside.Chain.{Linked, trues}
+use Rattle.arena.specs.inside.Carried.{carried}
 use Rattle.arena.proofs.Cases.{lt-or-ge}
 use Rattle.arena.proofs.Walking.{count, count-is, next-none, next-first}
-use Rattle.searching.specs.Cut.{Searchable}
-use Rattle.stepping.specs.Trio.{Trio}
-use Rattle.stepping.specs.Running.{Task, Merging, Underway, Both}
-use Rattle.merging.specs.Runs.{StepReady, StepDone, bothWait, RunsReady, RunsDone}
+use Rattle.searching.specs.inside.Cut.{Searchable}
+use Rattle.stepping.specs.inside.Trio.{Trio}
+use Rattle.stepping.specs.inside.Running.{Task, Merging, Underway, Both}
+use Rattle.merging.specs.inside.Runs.{StepReady, StepDone, bothWait, RunsReady, RunsDone}
 
 -- The test of the loop.
 pub none-waits : (a : List ℕ) (ho hn x : ℕ) → x ≡ word a ho 3 → x < 1 → false ≡ bothWait a ho hn

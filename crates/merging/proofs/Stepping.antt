@@ -5,10 +5,10 @@ use mathlib.Core.List.{List, _∷_}
 use Prim.Native.Nat.{ℕ, _≤_, _<_}
 use native.Mathlib.Omega.{arith}
 use Rattle.arena.specs.Arena.{word, mWord}
-use Rattle.arena.specs.Chain.{Has, Linked}
+use Rattle.arena.specs.inside.Chain.{Has, Linked}
 use Rattle.dropping.proofs.DropLaws.{same-first, first-has}
-use Rattle.stepping.specs.Running.{Task, Both, OlderReady, OlderDone, NewerReady, NewerDone}
-use Rattle.merging.specs.Runs.{StepReady, StepDone}
+use Rattle.stepping.specs.inside.Running.{Task, Both, OlderReady, OlderDone, NewerReady, NewerDone}
+use Rattle.merging.specs.inside.Runs.{StepReady, StepDone}
 
 module _ (a : List ℕ) (ho hn v w : ℕ) (ends : List ℕ) (e : v ≡ word a ho 3) (f : w ≡ word a hn 3) where
   older-linked : (t : Task) (z : Both t a ho hn ends) → Linked a ho (z .r ∷ z .xs)

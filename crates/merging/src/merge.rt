@@ -1,7 +1,7 @@
 // The maxplus merge of two lazy lists.
 ghost use mathlib.Core.List.{List};
 ghost use Prim.Native.Nat.{ℕ};
-ghost use Rattle.merging.specs.Merge.{Mergeable, Merged};
+ghost use Rattle.merging.specs.inside.Merge.{Mergeable, Merged};
 use crate::runs::merge_runs;
 use arena::empty::clear_head;
 use splicing::close::close;

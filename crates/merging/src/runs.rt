@@ -1,8 +1,8 @@
 // The runs of the merge, one after the other, while both lists have a record.
 ghost use mathlib.Core.Path.{_≡_};
-ghost use Rattle.arena.specs.Chain.{Has};
-ghost use Rattle.stepping.specs.Trio.{Kept};
-ghost use Rattle.merging.specs.Runs.{StepReady, StepDone, bothWait, RunsReady, RunsDone};
+ghost use Rattle.arena.specs.inside.Chain.{Has};
+ghost use Rattle.stepping.specs.inside.Trio.{Kept};
+ghost use Rattle.merging.specs.inside.Runs.{StepReady, StepDone, bothWait, RunsReady, RunsDone};
 use arena::words::FORWARD;
 use arena::words::M;
 use arena::words::get;

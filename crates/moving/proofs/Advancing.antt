@@ -7,21 +7,21 @@ use native.Mathlib.Omega.{arith}
 use lib.ListN.{length, getD}
 use Rattle.arena.specs.Arena.{level, adjust}
 use Rattle.arena.specs.Lazy.{lastWith}
-use Rattle.arena.specs.Chain.{wrap, All, Away, Linked, trues, leaving, Same, Shape, Value}
-use Rattle.arena.specs.Turning.{renewed, RenewedBelow}
+use Rattle.arena.specs.inside.Chain.{wrap, All, Away, Linked, trues, leaving, Same, Shape, Value}
+use Rattle.arena.specs.inside.Turning.{renewed, RenewedBelow}
 use Rattle.arena.proofs.Cases.{lt-or-ge}
 use Rattle.arena.proofs.ListLaws.{all-left, all-right, last-none, last-append, last-all, last-inside, leaving-last, trues-append, apart-from}
 use Rattle.arena.proofs.Summing.{suffixes-agree, renewed-in, renewed-out}
 use Rattle.arena.proofs.PutLaws.{same-trans}
 use Rattle.arena.proofs.Frames.{all-map, all-refl, all-both, same-value, next-frame, linked-frame, trues-frame, last-frame}
-use Rattle.searching.specs.Cut.{front, behind, LinkCount, CutAt}
+use Rattle.searching.specs.inside.Cut.{front, behind, LinkCount, CutAt}
 use Rattle.searching.proofs.CutLaws.{front-behind, all-front}
-use Rattle.splicing.specs.Open.{Relinkable, Relinked, lastSums, cutSums}
+use Rattle.splicing.specs.inside.Open.{Relinkable, Relinked, lastSums, cutSums}
 use Rattle.splicing.proofs.OpenLaws.{ends-frame}
 use Rattle.splicing.proofs.RelinkLaws.{relinked-value, relinked-same}
-use Rattle.settling.specs.Cached.{Cached}
-use Rattle.settling.specs.Settled.{Ready, Settled}
-use Rattle.moving.specs.Advance.{Movable, Moved}
+use Rattle.settling.specs.inside.Cached.{Cached}
+use Rattle.settling.specs.inside.Settled.{Ready, Settled}
+use Rattle.moving.specs.inside.Advance.{Movable, Moved}
 
 -- The list as it is cut.
 module _ (a : List ℕ) (h hc key : ℕ) (cs : List ℕ) (r : ℕ) (rs ends : List ℕ) (w : Movable a h hc key cs r rs ends) where

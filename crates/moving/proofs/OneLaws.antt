@@ -8,19 +8,19 @@ use native.Mathlib.Omega.{arith}
 use lib.ListN.{length, getD, replicate, getD-replicate}
 use Rattle.arena.specs.Arena.{word, level, pWord, forward, adjust}
 use Rattle.arena.specs.Lazy.{nextWith, lastWith, sumFrom}
-use Rattle.arena.specs.Chain.{Has, put, wrap, All, pUnder, trues}
-use Rattle.arena.specs.Turning.{RenewedBelow}
+use Rattle.arena.specs.inside.Chain.{Has, put, wrap, All, pUnder, trues}
+use Rattle.arena.specs.inside.Turning.{RenewedBelow}
 use Rattle.arena.proofs.Frames.{next-here}
 use Rattle.arena.proofs.ListLaws.{last-here}
 use Rattle.arena.proofs.PutLaws.{word-other-field}
-use Rattle.searching.specs.Cut.{front, LinkCount, CutAt, passes, Reachable, behind}
+use Rattle.searching.specs.inside.Cut.{front, LinkCount, CutAt, passes, Reachable, behind}
 use Rattle.searching.proofs.SearchLaws.{front-in}
 use Rattle.searching.proofs.Passing.{next-reach, front-none}
-use Rattle.splicing.specs.Open.{Relinkable, Relinked, lastSums, cutSums}
-use Rattle.settling.specs.Settled.{headSums, Settled}
-use Rattle.settling.specs.Cached.{Cached, MakesUp}
+use Rattle.splicing.specs.inside.Open.{Relinkable, Relinked, lastSums, cutSums}
+use Rattle.settling.specs.inside.Settled.{headSums, Settled}
+use Rattle.settling.specs.inside.Cached.{Cached, MakesUp}
 use Rattle.settling.proofs.Raising.{Raised, p-raised}
-use Rattle.moving.specs.Advance.{Movable, MovedFront}
+use Rattle.moving.specs.inside.Advance.{Movable, MovedFront}
 use Rattle.moving.proofs.Advancing.{can-relink, moved, moved-cached}
 use Rattle.moving.proofs.RunLaws.{raised-one}
 

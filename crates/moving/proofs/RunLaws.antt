@@ -10,20 +10,20 @@ use borrow.Author.Count.{below-more}
 use lib.ListN.{getD, set, replicate}
 use Rattle.arena.specs.Arena.{word, level, pWord, forward, adjust}
 use Rattle.arena.specs.Lazy.{nextWith, sumFrom}
-use Rattle.arena.specs.Chain.{Has, wrap, All, pUnder, after, trues, closed}
+use Rattle.arena.specs.inside.Chain.{Has, wrap, All, pUnder, after, trues, closed}
 use Rattle.arena.proofs.SumLaws.{sum-agree, add-both}
 use Rattle.arena.proofs.Frames.{all-both, all-refl, chain-low, after-out, next-here}
 use Rattle.arena.proofs.ListLaws.{all-left}
 use Rattle.arena.proofs.Summing.{renew-none}
-use Rattle.searching.specs.Cut.{front, LinkCount, CutAt, passes, behind}
-use Rattle.searching.specs.Walk.{Walked}
+use Rattle.searching.specs.inside.Cut.{front, LinkCount, CutAt, passes, behind}
+use Rattle.searching.specs.inside.Walk.{Walked}
 use Rattle.searching.proofs.SearchLaws.{front-in, none-in-front}
-use Rattle.splicing.specs.Open.{relinkOne, Relinkable, Relinked, lastSums, cutSums}
+use Rattle.splicing.specs.inside.Open.{relinkOne, Relinkable, Relinked, lastSums, cutSums}
 use Rattle.splicing.proofs.RelinkWords.{Rewired, Ready, Replaced, rewired-none, rewired-turn, replaced-none, replaced-turn}
 use Rattle.splicing.proofs.RelinkLaws.{ready, relinked}
-use Rattle.settling.specs.Settled.{headSums, Settled}
-use Rattle.settling.specs.Cached.{Cached, MakesUp}
-use Rattle.moving.specs.Advance.{Movable, Moved}
+use Rattle.settling.specs.inside.Settled.{headSums, Settled}
+use Rattle.settling.specs.inside.Cached.{Cached, MakesUp}
+use Rattle.moving.specs.inside.Advance.{Movable, Moved}
 use Rattle.moving.proofs.Advancing.{linked, can-relink, moved, moved-cached}
 
 -- A record of level 1 leaves the sum from link 1 up as it was.

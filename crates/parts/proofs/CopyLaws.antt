@@ -7,9 +7,9 @@ use native.Mathlib.Omega.{arith}
 use borrow.Author.Count.{below-more}
 use lib.ListN.{length}
 use Rattle.arena.specs.Arena.{stride, word}
-use Rattle.arena.specs.Chain.{Has, put, Same}
+use Rattle.arena.specs.inside.Chain.{Has, put, Same}
 use Rattle.arena.proofs.PutLaws.{length-put, word-same, word-other-record, word-other-field, same-refl}
-use Rattle.parts.specs.Copying.{Copied}
+use Rattle.parts.specs.inside.Copying.{Copied}
 
 -- What the loop keeps: the first j words are copied, and the head that they are copied from is as it was from word j on.
 pub record Copying (a : List ℕ) (from to : ℕ) (b : List ℕ) (j : ℕ) : Type 0 where

@@ -10,15 +10,15 @@ use Rattle.slicing.specs.Good.{Ordered}
 use Rattle.slicing.specs.Recorded.{Recorded, mergeRecorded, items}
 use Rattle.arena.specs.Arena.{mWord}
 use Rattle.arena.specs.Lazy.{held}
-use Rattle.arena.specs.Chain.{All, Away, Same}
+use Rattle.arena.specs.inside.Chain.{All, Away, Same}
 use Rattle.arena.proofs.Cases.{lt-or-ge}
 use Rattle.arena.proofs.Frames.{all-map}
 use Rattle.arena.proofs.PutLaws.{same-trans}
-use Rattle.stepping.specs.Trio.{Roomy}
-use Rattle.merging.specs.Merge.{Mergeable, Merged}
-use Rattle.parts.specs.Part.{headOf, Part, Suits}
-use Rattle.parts.specs.Copying.{Copied}
-use Rattle.parts.specs.Joining.{turnedIf, Ranged, Turns, Faces, Joinable, Joined}
+use Rattle.stepping.specs.inside.Trio.{Roomy}
+use Rattle.merging.specs.inside.Merge.{Mergeable, Merged}
+use Rattle.parts.specs.inside.Part.{headOf, Part, Suits}
+use Rattle.parts.specs.inside.Copying.{Copied}
+use Rattle.parts.specs.inside.Joining.{turnedIf, Ranged, Turns, Faces, Joinable, Joined}
 use Rattle.parts.proofs.PartLaws.{away-out, part-length, part-frame, part-copied}
 
 -- What holds of the m of each item holds of the m of each record.

@@ -8,15 +8,15 @@ use lib.ListN.{length, getD, drop}
 use Rattle.slicing.specs.Item.{Item, size}
 use Rattle.slicing.specs.Tree.{gauge}
 use Rattle.slicing.specs.Recorded.{Recorded, numbered, partRecorded}
-use Rattle.facefile.specs.Sizes.{sizesIn}
+use Rattle.facefile.specs.inside.Sizes.{sizesIn}
 use Rattle.facefile.proofs.SizesIn.{in-length}
 use Rattle.arena.specs.Arena.{level, mWord, adjust}
 use Rattle.arena.specs.Lazy.{held}
-use Rattle.arena.specs.Chain.{All}
-use Rattle.parts.specs.Loading.{numbers, Loaded}
-use Rattle.arena.specs.Carried.{paired, carried}
+use Rattle.arena.specs.inside.Chain.{All}
+use Rattle.parts.specs.inside.Loading.{numbers, Loaded}
+use Rattle.arena.specs.inside.Carried.{paired, carried}
 use Rattle.arena.proofs.HeldLaws.{held-carried, carried-sums}
-use Rattle.parts.specs.Part.{Part}
+use Rattle.parts.specs.inside.Part.{Part}
 
 paired-numbered : (b : List ℕ) (r n : ℕ) (z : List Item) → length z ≡ n → map (mWord b) (numbers r n) ≡ map (λ (x : Item). x .m) z → paired b (numbers r n) (map (λ (x : Item). x .p) z) ≡ numbered r z
 unfolding numbers

@@ -9,12 +9,12 @@ use lib.ListN.{length, getD, drop, drop-of-length-le}
 use lib.Seq.{drop-cons, drop-length}
 use Rattle.slicing.specs.Item.{Item, size}
 use Rattle.arena.specs.Arena.{level, mWord}
-use Rattle.arena.specs.Chain.{put, All, Away, trues, Same}
-use Rattle.arena.specs.Building.{Built, Cleared}
+use Rattle.arena.specs.inside.Chain.{put, All, Away, trues, Same}
+use Rattle.arena.specs.inside.Building.{Built, Cleared}
 use Rattle.facefile.specs.declared.Size.{Size}
-use Rattle.facefile.specs.Sizes.{sizesIn, SizeIn}
+use Rattle.facefile.specs.inside.Sizes.{sizesIn, SizeIn}
 use Rattle.facefile.proofs.SizesIn.{in-length}
-use Rattle.parts.specs.Loading.{numbers, Placed, Loadable, Loaded}
+use Rattle.parts.specs.inside.Loading.{numbers, Placed, Loadable, Loaded}
 use Rattle.arena.proofs.PutLaws.{length-put, same-refl, same-trans}
 use Rattle.arena.proofs.Frames.{all-map, all-both, map-same}
 use Rattle.arena.proofs.ClearLaws.{cleared-first}

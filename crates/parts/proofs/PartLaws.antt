@@ -8,14 +8,14 @@ use lib.ListN.{length, getD}
 use Rattle.slicing.specs.Recorded.{Recorded}
 use Rattle.arena.specs.Arena.{stride, word, level, adjust}
 use Rattle.arena.specs.Lazy.{held}
-use Rattle.arena.specs.Chain.{Has, All, Away, Same}
-use Rattle.arena.specs.Building.{Built}
+use Rattle.arena.specs.inside.Chain.{Has, All, Away, Same}
+use Rattle.arena.specs.inside.Building.{Built}
 use Rattle.arena.proofs.Frames.{all-map, same-shape, next-frame, chain-frame}
 use Rattle.arena.proofs.ListLaws.{held-length}
 use Rattle.arena.proofs.HeldLaws.{held-carried}
 use Rattle.arena.proofs.CarriedLaws.{carried-same}
-use Rattle.parts.specs.Part.{Part}
-use Rattle.parts.specs.Copying.{Copied}
+use Rattle.parts.specs.inside.Part.{Part}
+use Rattle.parts.specs.inside.Copying.{Copied}
 
 -- A record outside the range is none of the list.
 pub away-out : (lo hi x : ℕ) (rs : List ℕ) → ((lo ≤ x) × (x < hi) → ⊥) → All (λ y. (lo ≤ y) × (y < hi)) rs → Away x rs

@@ -7,9 +7,9 @@ use native.Mathlib.Omega.{arith}
 use lib.ListN.{length, length-append}
 use Rattle.slicing.specs.Tree.{Tree, sizesOf}
 use Rattle.slicing.specs.Recorded.{partRecorded}
-use Rattle.facefile.specs.Tracking.{flat}
-use Rattle.arena.specs.Chain.{Same}
-use Rattle.parts.specs.Part.{headOf, Parts}
+use Rattle.facefile.specs.inside.Tracking.{flat}
+use Rattle.arena.specs.inside.Chain.{Same}
+use Rattle.parts.specs.inside.Part.{headOf, Parts}
 use Rattle.parts.proofs.PartLaws.{part-frame}
 
 pub parts-some : (levels a : List ℕ) (stack : List Tree) (hi : ℕ) → Parts levels a stack hi → 1 ≤ hi

@@ -19,21 +19,21 @@ use Rattle.facefile.specs.declared.walk.GaugeEntry.{GaugeEntry}
 use Rattle.facefile.specs.declared.walk.Entry.{Entry}
 use Rattle.facefile.specs.declared.walk.Entry.the-variants.{Gauge, Join}
 use Rattle.facefile.specs.Format.{faceOf}
-use Rattle.facefile.specs.Kinds.{kindOf, Cut, across}
-use Rattle.facefile.specs.Sizes.{sizesIn}
-use Rattle.facefile.specs.Tracking.{flat}
-use Rattle.facefile.specs.Walk.{firstEntry, Walk, sizeBytesOf, GaugeAt, JoinAt, Finds}
+use Rattle.facefile.specs.inside.Kinds.{kindOf, Cut, across}
+use Rattle.facefile.specs.inside.Sizes.{sizesIn}
+use Rattle.facefile.specs.inside.Tracking.{flat}
+use Rattle.facefile.specs.inside.Walk.{firstEntry, Walk, sizeBytesOf, GaugeAt, JoinAt, Finds}
 use Rattle.facefile.proofs.SizesIn.{in-length}
 use Rattle.facefile.proofs.Taken.{face-taken}
 use Rattle.facefile.proofs.PartArray.{Held, push-held}
 use Rattle.facefile.proofs.WalkSteps.{walk-start, walk-end, found-gauge, found-join}
 use Rattle.facefile.proofs.WalkStack.{walk-parts, walk-sizes, walk-face, join-good, join-gauges}
-use Rattle.arena.specs.Chain.{Away}
-use Rattle.parts.specs.Loading.{numbers, Loadable, Loaded}
-use Rattle.parts.specs.Part.{headOf, Part, Suits, Parts}
-use Rattle.parts.specs.Copying.{Copied}
-use Rattle.parts.specs.Joining.{turnedIf, Joinable, Joined}
-use Rattle.parts.specs.Building.{Buildable, Whole}
+use Rattle.arena.specs.inside.Chain.{Away}
+use Rattle.parts.specs.inside.Loading.{numbers, Loadable, Loaded}
+use Rattle.parts.specs.inside.Part.{headOf, Part, Suits, Parts}
+use Rattle.parts.specs.inside.Copying.{Copied}
+use Rattle.parts.specs.inside.Joining.{turnedIf, Joinable, Joined}
+use Rattle.parts.specs.inside.Building.{Buildable, Whole}
 use Rattle.parts.proofs.PartLaws.{away-out, part-copied}
 use Rattle.parts.proofs.PartStack.{parts-some, parts-total, parts-frame}
 use Rattle.parts.proofs.LoadedPart.{numbers-inside, loaded-part}

@@ -10,14 +10,14 @@ use Rattle.slicing.specs.Item.{size}
 use Rattle.slicing.specs.Recorded.{Recorded, swapRecorded, turnRecorded}
 use Rattle.arena.specs.Arena.{level, mWord, adjust}
 use Rattle.arena.specs.Lazy.{held}
-use Rattle.arena.specs.Chain.{All, Away}
-use Rattle.arena.specs.Turning.{Turnable, Turned}
+use Rattle.arena.specs.inside.Chain.{All, Away}
+use Rattle.arena.specs.inside.Turning.{Turnable, Turned}
 use Rattle.arena.proofs.Cases.{eq-or-ne}
 use Rattle.arena.proofs.PutLaws.{same-refl}
-use Rattle.arena.specs.Carried.{paired, carried}
+use Rattle.arena.specs.inside.Carried.{paired, carried}
 use Rattle.arena.proofs.HeldLaws.{held-carried, carried-sums}
-use Rattle.parts.specs.Part.{Part}
-use Rattle.parts.specs.Joining.{Turns, Faces}
+use Rattle.parts.specs.inside.Part.{Part}
+use Rattle.parts.specs.inside.Joining.{Turns, Faces}
 use Rattle.parts.proofs.PartLaws.{away-out, part-length}
 
 paired-back : (b rs xs ps qs : List ℕ) → length ps ≡ length rs → paired b (reverseAux rs xs) (reverseAux ps qs) ≡ reverseAux (paired b rs ps) (paired b xs qs)

@@ -1,5 +1,1 @@
-pub mod Loading
-pub mod Part
-pub mod Copying
-pub mod Joining
-pub mod Building
+pub mod inside

@@ -4,7 +4,7 @@ ghost use Prim.Native.Nat.{_<_};
 ghost use Rattle.checks.specs.Answer.{taken};
 ghost use Rattle.slicing.specs.Tree.{Tree};
 ghost use Rattle.facefile.specs.Format.{faceOf};
-ghost use Rattle.parts.specs.Building.{Buildable, Whole};
+ghost use Rattle.parts.specs.inside.Building.{Buildable, Whole};
 use crate::heads::FIRST;
 use crate::heads::copy_head;
 use crate::join::join;

@@ -1,6 +1,6 @@
 // The heads of the lists of parts.
-ghost use Rattle.arena.specs.Chain.{Has};
-ghost use Rattle.parts.specs.Copying.{Copied};
+ghost use Rattle.arena.specs.inside.Chain.{Has};
+ghost use Rattle.parts.specs.inside.Copying.{Copied};
 use arena::STRIDE;
 use arena::words::get;
 use arena::words::store;

@@ -2,7 +2,7 @@
 ghost use mathlib.Core.List.{List};
 ghost use Prim.Native.Nat.{ℕ};
 ghost use Rattle.slicing.specs.Recorded.{Recorded};
-ghost use Rattle.parts.specs.Joining.{Turns, Faces, Joinable, Joined};
+ghost use Rattle.parts.specs.inside.Joining.{Turns, Faces, Joinable, Joined};
 use crate::heads::FIRST;
 use crate::heads::copy_head;
 use arena::turn::turn;

@@ -1,8 +1,8 @@
 // A list made of a gauge's sizes.
 ghost use mathlib.Core.Path.{_≡_};
 ghost use Prim.Native.Nat.{_≤_, _<_};
-ghost use Rattle.arena.specs.Building.{Hookable};
-ghost use Rattle.parts.specs.Loading.{Placed, Loadable, Loaded};
+ghost use Rattle.arena.specs.inside.Building.{Hookable};
+ghost use Rattle.parts.specs.inside.Loading.{Placed, Loadable, Loaded};
 use arena::empty::clear_head;
 use arena::prepend::prepend;
 use arena::words::store;

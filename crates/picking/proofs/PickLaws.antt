@@ -12,7 +12,7 @@ use borrow.Author.Tests.{ltb-true, ltb-false, eqb-true, eqb-false}
 use Rattle.slicing.specs.Item.{Item, size, width}
 use Rattle.slicing.specs.Layout.{Outline}
 use Rattle.slicing.specs.Fit.{nothing, picked, area, fits, choose, smallest}
-use Rattle.picking.specs.Picking.{Picks}
+use Rattle.picking.specs.inside.Picking.{Picks}
 
 -- Of two items the one of lower rank is the better: less area, and of equal areas less width.
 abbrev pub rank : Item → ℕ

@@ -1,1 +1,1 @@
-pub mod Picking
+pub mod inside

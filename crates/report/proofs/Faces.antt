@@ -7,14 +7,14 @@ use native.Mathlib.Omega.{arith}
 use lib.ListN.{length}
 use Rattle.text.specs.Fields.{newline, named}
 use Rattle.text.specs.Printing.{Printed, Counted}
-use Rattle.text.specs.Appending.{Appended}
+use Rattle.text.specs.inside.Appending.{Appended}
 use Rattle.text.proofs.Appends.{same-bytes, joined, from-start, counted}
 use Rattle.slicing.specs.Item.{Item, height, width}
 use Rattle.shapes.specs.Listing.{listWords}
 use Rattle.shapes.proofs.WordLaws.{words-length}
 use Rattle.report.specs.Text.{facesWord, refusedWord, itemLine, itemLines, bestLine, gaugeLines, facesText, refusedText}
 use Rattle.report.specs.Room.{textBytes, refusedBytes}
-use Rattle.report.specs.WordLines.{wordLines}
+use Rattle.report.specs.inside.WordLines.{wordLines}
 use Rattle.report.proofs.Bounds.{parts, Renderable, parts-most, refused-most}
 
 lines-listed : (l : List Item) → wordLines (listWords l) ≡ itemLines l

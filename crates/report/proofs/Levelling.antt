@@ -11,12 +11,12 @@ use Rattle.slicing.proofs.Counts.{counted}
 use Rattle.facefile.specs.Format.{faceOf}
 use Rattle.facefile.proofs.Taken.{face-taken}
 use Rattle.levels.specs.Levels.{topLevel, levelsOf}
-use Rattle.levels.specs.Taken.{OwnLevels}
+use Rattle.levels.specs.inside.Taken.{OwnLevels}
 use Rattle.levels.proofs.Sequence.{length-levels}
 use Rattle.levels.proofs.Range.{top-least, top-most, level-fits}
-use Rattle.shapes.specs.Taken.{Writable}
-use Rattle.fit.specs.Facing.{Placeable}
-use Rattle.report.specs.Telling.{Tallied, Levelled}
+use Rattle.shapes.specs.inside.Taken.{Writable}
+use Rattle.fit.specs.inside.Facing.{Placeable}
+use Rattle.report.specs.inside.Telling.{Tallied, Levelled}
 
 -- Every level is 1 to 8.
 abbrev InRange : List ℕ → Type 0

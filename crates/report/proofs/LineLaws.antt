@@ -5,7 +5,7 @@ use mathlib.Core.List.{List, _++_}
 use Prim.Native.Nat.{ℕ, _+_}
 use lib.ListN.{length, length-append}
 use Rattle.text.specs.Fields.{space, newline, field, named}
-use Rattle.text.specs.Appending.{Appended}
+use Rattle.text.specs.inside.Appending.{Appended}
 use Rattle.text.proofs.Appends.{joined}
 use Rattle.report.specs.Text.{bestWord, gaugeWord, sizeWord, atWord, itemLine, bestLine, gaugeLine}
 

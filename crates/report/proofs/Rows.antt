@@ -7,10 +7,10 @@ use native.Mathlib.Numerals.{add-one}
 use native.Mathlib.Omega.{arith}
 use lib.ListN.{length, getD, drop, length-drop}
 use lib.Seq.{drop-cons}
-use Rattle.text.specs.Appending.{Appended}
+use Rattle.text.specs.inside.Appending.{Appended}
 use Rattle.text.proofs.Appends.{nothing, joined, appended-length, first-room, rest-room}
 use Rattle.report.specs.Text.{itemLine, gaugeLine, gaugeLines}
-use Rattle.report.specs.WordLines.{wordLines}
+use Rattle.report.specs.inside.WordLines.{wordLines}
 
 -- The bytes `left` are due at the place reached: they fit, and what appends them there completes `all`.
 pub record Due (old : List ℕ) (at : ℕ) (all left text : List ℕ) (next : ℕ) : Type 0 where

@@ -20,15 +20,15 @@ use Rattle.facefile.proofs.Answered.{answer-taken, answer-refused}
 use Rattle.facefile.proofs.Taken.{face-taken}
 use Rattle.lent.specs.Lent.{writtenOver}
 use Rattle.shapes.specs.Listing.{listWords}
-use Rattle.shapes.specs.Taken.{Wrote, WroteFace}
+use Rattle.shapes.specs.inside.Taken.{Wrote, WroteFace}
 use Rattle.shapes.proofs.WordLaws.{words-length as list-words-length}
 use Rattle.fit.specs.declared.Fitted.{Fitted}
 use Rattle.fit.specs.Fitting.{faceFound, faceWords}
-use Rattle.fit.specs.Facing.{PlacedFace, PlacedIn}
+use Rattle.fit.specs.inside.Facing.{PlacedFace, PlacedIn}
 use Rattle.report.specs.Text.{facesText, refusedText}
 use Rattle.report.specs.Room.{textBytes}
 use Rattle.report.specs.Faces.{widest, pickPrinted, facesPrinted, FacesText}
-use Rattle.report.specs.Telling.{Tallied, Levelled, Worked}
+use Rattle.report.specs.inside.Telling.{Tallied, Levelled, Worked}
 use Rattle.report.proofs.Levelling.{sizes-most}
 
 other-text : (a b old new : List ℕ) (r : ℕ) → a ≡ b → Printed a old new r → Printed b old new r

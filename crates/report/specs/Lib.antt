@@ -1,5 +1,4 @@
 pub mod Text
 pub mod Room
-pub mod WordLines
 pub mod Faces
-pub mod Telling
+pub mod inside

@@ -9,7 +9,7 @@ ghost use Rattle.slicing.specs.Fit.{smallest};
 ghost use Rattle.facefile.specs.Format.{faceOf};
 ghost use Rattle.report.specs.Room.{textBytes};
 ghost use Rattle.report.specs.Faces.{widest, pickPrinted, facesPrinted, FacesText};
-ghost use Rattle.report.specs.Telling.{Tallied, Levelled, Worked};
+ghost use Rattle.report.specs.inside.Telling.{Tallied, Levelled, Worked};
 use crate::TEXT;
 use crate::render::render;
 use crate::render::render_refused;

@@ -2,9 +2,9 @@
 // after them.
 ghost use Prim.Native.Nat.{_+_, _≤_};
 ghost use lib.ListN.{length};
-ghost use Rattle.text.specs.Appending.{Appended};
+ghost use Rattle.text.specs.inside.Appending.{Appended};
 ghost use Rattle.report.specs.Text.{itemLine, bestLine, gaugeLine, gaugeLines};
-ghost use Rattle.report.specs.WordLines.{wordLines};
+ghost use Rattle.report.specs.inside.WordLines.{wordLines};
 use text::write_field;
 use text::write_named;
 

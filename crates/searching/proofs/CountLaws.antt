@@ -9,10 +9,10 @@ use borrow.Author.Count.{below-more}
 use lib.Dec.{leb}
 use Rattle.arena.specs.Arena.{word, level, mWord, forward}
 use Rattle.arena.specs.Lazy.{nextWith}
-use Rattle.arena.specs.Chain.{All, Chain}
+use Rattle.arena.specs.inside.Chain.{All, Chain}
 use Rattle.arena.proofs.ListLaws.{next-none, next-back, some-or-none, jump}
 use Rattle.arena.proofs.Frames.{all-map, next-here}
-use Rattle.searching.specs.Cut.{front, Falling, Searchable, LinkCount, passes}
+use Rattle.searching.specs.inside.Cut.{front, Falling, Searchable, LinkCount, passes}
 use Rattle.searching.proofs.SearchLaws.{front-jump, passes-yes, none-in-front}
 
 pub chain-some : (a rs : List ℕ) → Chain a rs → All (λ r. 1 ≤ r) rs

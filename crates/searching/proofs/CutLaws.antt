@@ -7,10 +7,10 @@ use native.Mathlib.Omega.{arith}
 use lib.ListN.{length, length-append}
 use borrow.Author.Tests.{le-leb, lt-leb}
 use Rattle.arena.specs.Arena.{mWord}
-use Rattle.arena.specs.Chain.{All}
+use Rattle.arena.specs.inside.Chain.{All}
 use Rattle.arena.proofs.Cases.{lt-or-ge}
 use Rattle.arena.proofs.ListLaws.{all-left, all-right}
-use Rattle.searching.specs.Cut.{front, behind}
+use Rattle.searching.specs.inside.Cut.{front, behind}
 use Rattle.searching.proofs.SearchLaws.{front-in}
 
 pub front-behind : (a : List ℕ) (key : ℕ) (rs : List ℕ) → rs ≡ front a key rs ++ behind a key rs

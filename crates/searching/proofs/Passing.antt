@@ -9,14 +9,14 @@ use lib.ListN.{length, length-append}
 use lib.Dec.{leb}
 use Rattle.arena.specs.Arena.{word, mWord, pWord, adjust}
 use Rattle.arena.specs.Lazy.{nextWith, lastWith}
-use Rattle.arena.specs.Chain.{Has, put, wrap, All, Away, Member, Chain, Same, Shape}
+use Rattle.arena.specs.inside.Chain.{Has, put, wrap, All, Away, Member, Chain, Same, Shape}
 use Rattle.arena.proofs.ListLaws.{last-here, last-append, all-left, all-right, all-append, chain-right, jump, apart-from}
 use Rattle.arena.proofs.PutLaws.{length-put, word-same, word-other-record, word-other-field, same-refl, same-put, same-trans}
 use Rattle.arena.proofs.Cases.{lt-or-ge}
 use Rattle.arena.proofs.Frames.{all-both}
 use Rattle.arena.proofs.Walking.{count, next-none, next-first, next-second, count-is, one-list}
-use Rattle.searching.specs.Cut.{front, Searchable, passes, Reachable}
-use Rattle.searching.specs.Walk.{Walked}
+use Rattle.searching.specs.inside.Cut.{front, Searchable, passes, Reachable}
+use Rattle.searching.specs.inside.Walk.{Walked}
 use Rattle.searching.proofs.SearchLaws.{front-in, front-out, passes-yes, passes-no}
 
 -- Records that are not below the key are in front of what follows them.

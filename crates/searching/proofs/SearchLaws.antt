@@ -11,12 +11,12 @@ use lib.Dec.{leb}
 use borrow.Author.Tests.{leb-true, leb-false, le-leb, lt-leb}
 use Rattle.arena.specs.Arena.{word, level, mWord, forward, adjust}
 use Rattle.arena.specs.Lazy.{nextWith, lastWith}
-use Rattle.arena.specs.Chain.{Has, All, Links, Chain}
+use Rattle.arena.specs.inside.Chain.{Has, All, Links, Chain}
 use Rattle.arena.proofs.ListLaws.{last-here, last-none, last-append, Jump, jump, all-right, chain-right}
 use Rattle.arena.proofs.Walking.{count, count-is, one-list}
 use Rattle.arena.proofs.Frames.{next-here, next-past}
 use Rattle.arena.proofs.Cases.{lt-or-ge, eq-or-ne}
-use Rattle.searching.specs.Cut.{front, Falling, Searchable, CutAt, passes, Reachable}
+use Rattle.searching.specs.inside.Cut.{front, Falling, Searchable, CutAt, passes, Reachable}
 
 pub front-in : (a : List ℕ) (key r : ℕ) (rs : List ℕ) → key ≤ mWord a r → front a key (r ∷ rs) ≡ r ∷ front a key rs
 unfolding front

@@ -5,7 +5,7 @@ ghost use mathlib.Core.List.{List};
 ghost use Prim.Native.Nat.{ℕ, _≤_};
 ghost use lib.ListN.{length};
 ghost use Rattle.arena.specs.Arena.{forward};
-ghost use Rattle.searching.specs.Cut.{Searchable, LinkCount, CutAt, Reachable, passes};
+ghost use Rattle.searching.specs.inside.Cut.{Searchable, LinkCount, CutAt, Reachable, passes};
 use arena::words::ADJUST;
 use arena::words::FORWARD;
 use arena::words::M;

@@ -1,8 +1,8 @@
 // A walk along the records in front of a list.
 ghost use mathlib.Core.List.{List};
 ghost use Prim.Native.Nat.{ℕ, _≤_};
-ghost use Rattle.searching.specs.Cut.{Searchable};
-ghost use Rattle.searching.specs.Walk.{Walked};
+ghost use Rattle.searching.specs.inside.Cut.{Searchable};
+ghost use Rattle.searching.specs.inside.Walk.{Walked};
 use crate::search::may_pass;
 use arena::words::FORWARD;
 use arena::words::P;

@@ -9,11 +9,11 @@ use lib.ListN.{length, length-append}
 use lib.Dec.{ltb}
 use Rattle.arena.specs.Arena.{level, forward}
 use Rattle.arena.specs.Lazy.{nextWith, lastWith}
-use Rattle.arena.specs.Chain.{Has, All, Away, Chain, Linked}
+use Rattle.arena.specs.inside.Chain.{Has, All, Away, Chain, Linked}
 use Rattle.arena.proofs.Cases.{lt-or-ge}
 use Rattle.arena.proofs.ListLaws.{last-here, last-past, all-left, all-right, all-append, next-back}
 use Rattle.arena.proofs.Frames.{next-here, next-past}
-use Rattle.settling.specs.Lift.{nextOr, Stretch, Chained}
+use Rattle.settling.specs.inside.Lift.{nextOr, Stretch, Chained}
 use Rattle.settling.proofs.SettleLaws.{Starts}
 
 -- The front before its first record with link i, and from there on.

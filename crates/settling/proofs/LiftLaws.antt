@@ -9,11 +9,11 @@ use lib.Dec.{leb}
 use borrow.Author.Tests.{le-leb}
 use Rattle.arena.specs.Arena.{level, pWord, adjust}
 use Rattle.arena.specs.Lazy.{sumFrom}
-use Rattle.arena.specs.Chain.{wrap, pUnder, after}
+use Rattle.arena.specs.inside.Chain.{wrap, pUnder, after}
 use Rattle.arena.proofs.Cases.{lt-or-ge, last-or-below}
 use Rattle.arena.proofs.SumLaws.{sum-agree, sum-frame}
 use Rattle.arena.proofs.Frames.{after-in, after-out}
-use Rattle.settling.specs.Lift.{Lifted}
+use Rattle.settling.specs.inside.Lift.{Lifted}
 
 -- g is f, but raised by v at k. Link 0 counts for no record, and nothing is said of it.
 pub record Bumped (k v : ℕ) (f g : ℕ → ℕ) : Type 0 where

@@ -9,12 +9,12 @@ use lib.ListN.{length, length-append}
 use lib.Dec.{ltb, eqb}
 use borrow.Author.Tests.{lt-ltb, le-ltb, eq-eqb, ne-eqb}
 use Rattle.arena.specs.Arena.{stride, word, level, forward}
-use Rattle.arena.specs.Chain.{Has, put, wrap, All, Away, Same, Shape}
+use Rattle.arena.specs.inside.Chain.{Has, put, wrap, All, Away, Same, Shape}
 use Rattle.arena.proofs.Cases.{lt-or-ge}
 use Rattle.arena.proofs.ListLaws.{all-right}
 use Rattle.arena.proofs.PutLaws.{length-put, word-same, word-other-field, same-refl, same-put, same-trans}
 use Rattle.arena.proofs.Frames.{all-map}
-use Rattle.settling.specs.Lift.{nextOr, Within, Stretch, Lifted, Lifting, Chained}
+use Rattle.settling.specs.inside.Lift.{nextOr, Within, Stretch, Lifted, Lifting, Chained}
 
 next-here : (a : List ℕ) (k stop r : ℕ) (rs : List ℕ) → k < level a r → nextOr a k stop (r ∷ rs) ≡ r
 unfolding nextOr

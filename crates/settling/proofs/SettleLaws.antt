@@ -8,13 +8,13 @@ use native.Mathlib.Omega.{arith}
 use lib.ListN.{length, getD}
 use Rattle.arena.specs.Arena.{level, pWord}
 use Rattle.arena.specs.Lazy.{sumFrom}
-use Rattle.arena.specs.Chain.{wrap, All, pUnder, after, trues, leaving, Shape, Value}
-use Rattle.arena.specs.Turning.{Suffixes}
+use Rattle.arena.specs.inside.Chain.{wrap, All, pUnder, after, trues, leaving, Shape, Value}
+use Rattle.arena.specs.inside.Turning.{Suffixes}
 use Rattle.arena.proofs.Cases.{lt-or-ge}
 use Rattle.arena.proofs.SumLaws.{sum-agree, sum-frame, sum-split, add-both}
 use Rattle.arena.proofs.Frames.{after-in, after-out, trues-frame}
-use Rattle.settling.specs.Lift.{Lifted}
-use Rattle.settling.specs.Cached.{MakesUp}
+use Rattle.settling.specs.inside.Lift.{Lifted}
+use Rattle.settling.specs.inside.Cached.{MakesUp}
 use Rattle.settling.proofs.LiftLaws.{Bumped, under-lifted, after-lifted}
 
 -- The carry to a level, as the code takes it: the difference of the two sums, and q.

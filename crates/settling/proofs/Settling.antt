@@ -10,17 +10,17 @@ use lib.Dec.{ltb, eqb}
 use borrow.Author.Tests.{lt-ltb, le-ltb, eq-eqb, ne-eqb}
 use Rattle.arena.specs.Arena.{word, level}
 use Rattle.arena.specs.Lazy.{nextWith, sumFrom}
-use Rattle.arena.specs.Turning.{Suffixes}
-use Rattle.arena.specs.Chain.{Has, wrap, All, Away, Chain, Linked, trues, leaving, Same, Shape, Value, closed}
+use Rattle.arena.specs.inside.Turning.{Suffixes}
+use Rattle.arena.specs.inside.Chain.{Has, wrap, All, Away, Chain, Linked, trues, leaving, Same, Shape, Value, closed}
 use Rattle.arena.proofs.Cases.{lt-or-ge}
 use Rattle.arena.proofs.ListLaws.{last-none, all-left, last-forward, apart-from}
 use Rattle.arena.proofs.PutLaws.{same-refl, same-trans}
 use Rattle.arena.proofs.SumLaws.{sum-first, sum-agree, add-both}
 use Rattle.arena.proofs.Frames.{all-map, all-refl, same-value, chain-low, lowest-free, linked-frame}
-use Rattle.splicing.specs.Open.{lastSums}
-use Rattle.settling.specs.Lift.{Lifting, Chained}
-use Rattle.settling.specs.Settled.{headSums, Ready, Settled}
-use Rattle.settling.specs.Cached.{Cached, MakesUp}
+use Rattle.splicing.specs.inside.Open.{lastSums}
+use Rattle.settling.specs.inside.Lift.{Lifting, Chained}
+use Rattle.settling.specs.inside.Settled.{headSums, Ready, Settled}
+use Rattle.settling.specs.inside.Cached.{Cached, MakesUp}
 use Rattle.settling.proofs.LiftLaws.{Bumped}
 use Rattle.settling.proofs.Raising.{lifted-none}
 use Rattle.settling.proofs.SettleLaws.{trues-parted, trues-above}

@@ -1,3 +1,1 @@
-pub mod Lift
-pub mod Settled
-pub mod Cached
+pub mod inside

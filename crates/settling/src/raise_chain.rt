@@ -1,7 +1,7 @@
 // Raising a stretch of a list at one link.
 ghost use mathlib.Core.List.{List};
 ghost use Prim.Native.Nat.{ℕ, _<_};
-ghost use Rattle.settling.specs.Lift.{Lifting, Chained};
+ghost use Rattle.settling.specs.inside.Lift.{Lifting, Chained};
 use arena::words::ADJUST;
 use arena::words::FORWARD;
 use arena::words::P;

@@ -1,7 +1,7 @@
 // Raising a stretch of a list at the lowest link.
 ghost use mathlib.Core.List.{List};
 ghost use Prim.Native.Nat.{ℕ};
-ghost use Rattle.settling.specs.Lift.{Lifting, Chained};
+ghost use Rattle.settling.specs.inside.Lift.{Lifting, Chained};
 use arena::words::FORWARD;
 use arena::words::P;
 use arena::words::get;

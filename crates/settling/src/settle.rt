@@ -1,8 +1,8 @@
 // Settling the front of a list that is to follow another one.
 ghost use mathlib.Core.List.{List};
 ghost use Prim.Native.Nat.{ℕ};
-ghost use Rattle.settling.specs.Cached.{Cached};
-ghost use Rattle.settling.specs.Settled.{Ready, Settled};
+ghost use Rattle.settling.specs.inside.Cached.{Cached};
+ghost use Rattle.settling.specs.inside.Settled.{Ready, Settled};
 use crate::lift::lift;
 use crate::raise_chain::raise_chain;
 use crate::raise_lowest::raise_lowest;

@@ -10,12 +10,12 @@ use Rattle.slicing.specs.Item.{Item}
 use Rattle.slicing.specs.Recorded.{items}
 use Rattle.arena.specs.Arena.{word, adjust}
 use Rattle.arena.specs.Lazy.{held}
-use Rattle.arena.specs.Chain.{pUnder, after, trues}
-use Rattle.arena.specs.Turning.{Suffixes, Summable, Enterable, TrueP, Renewed}
-use Rattle.arena.specs.Carried.{carried}
+use Rattle.arena.specs.inside.Chain.{pUnder, after, trues}
+use Rattle.arena.specs.inside.Turning.{Suffixes, Summable, Enterable, TrueP, Renewed}
+use Rattle.arena.specs.inside.Carried.{carried}
 use Rattle.lent.specs.Lent.{writtenOver}
 use Rattle.shapes.specs.Listing.{listWords}
-use Rattle.shapes.specs.Writing.{Listable, itemAt}
+use Rattle.shapes.specs.inside.Writing.{Listable, itemAt}
 use Rattle.shapes.proofs.ListWalk.{Walk, walk-start, walk-summable, walk-know, walk-more, walk-done}
 use Rattle.shapes.proofs.WordLaws.{words-length, over-sets, sets-more, length-item}
 use Rattle.shapes.proofs.ItemLaws.{itemsOf, items-first, items-length, items-held}

@@ -8,8 +8,8 @@ use Rattle.slicing.specs.Item.{Item, size}
 use Rattle.slicing.specs.Recorded.{items}
 use Rattle.arena.specs.Arena.{mWord, adjust}
 use Rattle.arena.specs.Lazy.{held}
-use Rattle.arena.specs.Chain.{pUnder, after, trues}
-use Rattle.arena.specs.Carried.{carried}
+use Rattle.arena.specs.inside.Chain.{pUnder, after, trues}
+use Rattle.arena.specs.inside.Carried.{carried}
 use Rattle.arena.proofs.HeldLaws.{held-carried}
 
 -- The items of the records rs, entered with the sums f.

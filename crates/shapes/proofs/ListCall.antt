@@ -20,7 +20,7 @@ use Rattle.lent.proofs.Asking.{Levelled, levels-taken, buffers-taken, output-ta
 use Rattle.lent.proofs.Calling.{counts, asked-of-counts, refused-by-file, refused-by-asked, asked-taken, taken-by-all}
 use Rattle.shapes.specs.declared.Listed.{Listed}
 use Rattle.shapes.specs.Listing.{listAsks, listCall, ListLeaves}
-use Rattle.shapes.specs.Taken.{Writable, Wrote}
+use Rattle.shapes.specs.inside.Taken.{Writable, Wrote}
 
 -- What was asked of a face of n sizes and g gauges, where all was answered "yes".
 module _ (n g : ℕ) (levels : List ℕ) (arena scratch output : ℕ) where

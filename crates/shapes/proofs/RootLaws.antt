@@ -22,13 +22,13 @@ use Rattle.arena.specs.Lazy.{held}
 use Rattle.arena.proofs.Frames.{all-map}
 use Rattle.arena.proofs.ListLaws.{held-length}
 use Rattle.maxplus.proofs.Holds.{holds-lazy}
-use Rattle.facefile.specs.Kinds.{kindOf}
-use Rattle.parts.specs.Building.{Whole}
+use Rattle.facefile.specs.inside.Kinds.{kindOf}
+use Rattle.parts.specs.inside.Building.{Whole}
 use Rattle.parts.proofs.PartLaws.{part-length}
 use Rattle.lent.specs.Lent.{writtenOver}
 use Rattle.shapes.specs.Listing.{listWords, RootList}
-use Rattle.shapes.specs.Writing.{Listable}
-use Rattle.shapes.specs.Taken.{Writable, WroteFace, Wrote}
+use Rattle.shapes.specs.inside.Writing.{Listable}
+use Rattle.shapes.specs.inside.Taken.{Writable, WroteFace, Wrote}
 
 by-height : (t : Tree) → (kindOf t ≡ 0x03 → ⊥) → items (partRecorded 0 1 t) ≡ shapes 0 t
 by-height (gauge s) other = ap items (part-gauge 0 1 s) ∙ items-shapes 0 1 (gauge s)

@@ -11,12 +11,12 @@ use Rattle.slicing.specs.Merge.{turn}
 use Rattle.slicing.proofs.TurnLaws.{turn-length}
 use Rattle.arena.specs.Arena.{word, mWord, adjust}
 use Rattle.arena.specs.Lazy.{held}
-use Rattle.arena.specs.Chain.{pUnder, after, trues}
-use Rattle.arena.specs.Turning.{Suffixes, Summable, TrueP, Renewed}
-use Rattle.arena.specs.Carried.{carried}
+use Rattle.arena.specs.inside.Chain.{pUnder, after, trues}
+use Rattle.arena.specs.inside.Turning.{Suffixes, Summable, TrueP, Renewed}
+use Rattle.arena.specs.inside.Carried.{carried}
 use Rattle.lent.specs.Lent.{writtenOver}
 use Rattle.shapes.specs.Listing.{listWords}
-use Rattle.shapes.specs.Writing.{Countable, Listable, itemAt}
+use Rattle.shapes.specs.inside.Writing.{Countable, Listable, itemAt}
 use Rattle.shapes.proofs.ListWalk.{Walk, walk-start, walk-summable, walk-know, walk-more, walk-done}
 use Rattle.shapes.proofs.WordLaws.{words-length, turned-words, over-more, length-item}
 use Rattle.shapes.proofs.ItemLaws.{itemsOf, items-first, items-length, items-held}

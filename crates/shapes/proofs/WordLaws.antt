@@ -13,7 +13,7 @@ use Rattle.slicing.specs.Merge.{swap, turn}
 use Rattle.slicing.proofs.TurnLaws.{turn-cons}
 use Rattle.lent.specs.Lent.{writtenOver}
 use Rattle.shapes.specs.Listing.{listWords}
-use Rattle.shapes.specs.Writing.{itemAt}
+use Rattle.shapes.specs.inside.Writing.{itemAt}
 
 pub words-length : (l : List Item) → length (listWords l) ≡ 2 * length l
 unfolding listWords

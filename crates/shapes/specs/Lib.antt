@@ -1,4 +1,3 @@
 pub mod Listing
-pub mod Writing
-pub mod Taken
 pub mod Demand2
+pub mod inside

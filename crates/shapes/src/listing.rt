@@ -5,7 +5,7 @@ ghost use Rattle.checks.specs.Answer.{number};
 ghost use Rattle.facefile.specs.Format.{faceOf};
 ghost use Rattle.lent.specs.Lent.{lent};
 ghost use Rattle.shapes.specs.Listing.{listAsks, ListPromise};
-ghost use Rattle.shapes.specs.Taken.{Writable, Wrote};
+ghost use Rattle.shapes.specs.inside.Taken.{Writable, Wrote};
 use crate::Listed;
 use crate::write::write_by_height;
 use crate::write::write_by_width;

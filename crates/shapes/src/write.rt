@@ -8,7 +8,7 @@ ghost use Rattle.slicing.specs.Merge.{turn};
 ghost use Rattle.arena.specs.Lazy.{held};
 ghost use Rattle.lent.specs.Lent.{writtenOver};
 ghost use Rattle.shapes.specs.Listing.{listWords};
-ghost use Rattle.shapes.specs.Writing.{Countable, Listable, itemAt};
+ghost use Rattle.shapes.specs.inside.Writing.{Countable, Listable, itemAt};
 use arena::sums::enter;
 use arena::sums::pass;
 use arena::sums::true_p;

@@ -5,8 +5,8 @@ use mathlib.Core.List.{List}
 use Prim.Native.Nat.{ℕ, _+_, _≤_, _<_}
 use native.Mathlib.Omega.{arith}
 use lib.ListN.{length, getD}
-use Rattle.arena.specs.Chain.{Has, put}
-use Rattle.splicing.specs.Open.{OpenLinked, EndsOf, Closed}
+use Rattle.arena.specs.inside.Chain.{Has, put}
+use Rattle.splicing.specs.inside.Open.{OpenLinked, EndsOf, Closed}
 use Rattle.splicing.proofs.ClosingLaws.{Ended, ended-none, ended-turn, ends-has, closed}
 
 pub record Closing (a₀ a ends : List ℕ) (k : ℕ) : Type 0 where

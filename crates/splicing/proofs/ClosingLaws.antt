@@ -10,12 +10,12 @@ use lib.Dec.{ltb}
 use lib.ListN.{length, getD}
 use Rattle.arena.specs.Arena.{stride, word, level, forward}
 use Rattle.arena.specs.Lazy.{nextWith, lastWith}
-use Rattle.arena.specs.Chain.{Has, put, All, Away, Links, Chain, Same, Value, growing, LinksOf, ChainOf}
+use Rattle.arena.specs.inside.Chain.{Has, put, All, Away, Links, Chain, Same, Value, growing, LinksOf, ChainOf}
 use Rattle.arena.proofs.Cases.{eq-or-ne}
 use Rattle.arena.proofs.ListLaws.{last-here, last-none, next-none, some-or-none, last-all, not-last}
 use Rattle.arena.proofs.PutLaws.{length-put, word-same, word-other-record, word-other-field}
 use Rattle.arena.proofs.Frames.{all-refl, next-frame, chain-some, chain-has}
-use Rattle.splicing.specs.Open.{OpenLinked, EndsOf, Closed}
+use Rattle.splicing.specs.inside.Open.{OpenLinked, EndsOf, Closed}
 
 -- The words after the links below n were closed.
 pub record Ended (a b : List ℕ) (ends : List ℕ) (n : ℕ) : Type 0 where

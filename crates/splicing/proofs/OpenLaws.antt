@@ -7,9 +7,9 @@ use native.Mathlib.Omega.{arith}
 use lib.ListN.{replicate, length-replicate, getD-replicate}
 use Rattle.arena.specs.Arena.{level}
 use Rattle.arena.specs.Lazy.{nextWith, lastWith}
-use Rattle.arena.specs.Chain.{Has, All}
+use Rattle.arena.specs.inside.Chain.{Has, All}
 use Rattle.arena.proofs.Frames.{last-frame}
-use Rattle.splicing.specs.Open.{OpenLinked, EndsOf}
+use Rattle.splicing.specs.inside.Open.{OpenLinked, EndsOf}
 
 pub ends-frame : (a b : List ℕ) (h : ℕ) (rs ends : List ℕ) → All (λ x. level b x ≡ level a x) rs → EndsOf a h rs ends → EndsOf b h rs ends
 ends-frame a b h rs ends e c =

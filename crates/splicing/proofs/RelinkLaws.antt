@@ -9,11 +9,11 @@ use lib.Dec.{ltb}
 use lib.ListN.{getD}
 use Rattle.arena.specs.Arena.{stride, word, level, forward}
 use Rattle.arena.specs.Lazy.{nextWith, lastWith}
-use Rattle.arena.specs.Chain.{Has, All, Away, Chain, Linked, Same, Shape, Value, closed, growing, LinksOf, ChainOf}
+use Rattle.arena.specs.inside.Chain.{Has, All, Away, Chain, Linked, Same, Shape, Value, closed, growing, LinksOf, ChainOf}
 use Rattle.arena.proofs.Cases.{lt-or-ge}
 use Rattle.arena.proofs.ListLaws.{last-here, last-none, last-append, all-left, all-right, all-append, chain-right, next-front, next-back, next-none, some-or-none, last-all, last-inside, last-any, last-forward, not-last}
 use Rattle.arena.proofs.Frames.{all-map, all-refl, all-both, next-frame, same-shape, chain-frame, last-frame, chain-some, chain-has}
-use Rattle.splicing.specs.Open.{OpenLinked, Relinkable, Relinked}
+use Rattle.splicing.specs.inside.Open.{OpenLinked, Relinkable, Relinked}
 use Rattle.splicing.proofs.RelinkWords.{Rewired, Ready, Replaced}
 
 -- None of rs is an end below n, where each end is away from rs.

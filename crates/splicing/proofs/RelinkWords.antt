@@ -7,10 +7,10 @@ use native.Mathlib.Omega.{arith}
 use lib.ListN.{length, getD, set, length-set}
 use lib.Seq.{getD-set-same, getD-set-other}
 use Rattle.arena.specs.Arena.{stride, word, forward, adjust}
-use Rattle.arena.specs.Chain.{Has, put}
+use Rattle.arena.specs.inside.Chain.{Has, put}
 use Rattle.arena.proofs.Cases.{eq-or-ne}
 use Rattle.arena.proofs.PutLaws.{length-put, word-same, word-other-record, word-other-field}
-use Rattle.splicing.specs.Open.{passOn, relinkOne}
+use Rattle.splicing.specs.inside.Open.{passOn, relinkOne}
 
 -- One link: from is the last record of the open list, to the last one of the front.
 module _ (a : List ℕ) (h from to k v : ℕ) where

@@ -6,10 +6,10 @@ use Prim.Native.Nat.{ℕ, suc, _+_, _-_, _%_, _^_, _≤_, _<_}
 use native.Mathlib.Omega.{arith}
 use lib.ListN.{length, getD, set}
 use Rattle.arena.specs.Arena.{word, adjust}
-use Rattle.arena.specs.Chain.{Has}
-use Rattle.arena.specs.Turning.{RenewedBelow}
+use Rattle.arena.specs.inside.Chain.{Has}
+use Rattle.arena.specs.inside.Turning.{RenewedBelow}
 use Rattle.arena.proofs.Summing.{Renewing, renewing-start, renewing-more, renewing-done}
-use Rattle.splicing.specs.Open.{relinkOne, FrontReady, FrontMoved, lastSums, cutSums}
+use Rattle.splicing.specs.inside.Open.{relinkOne, FrontReady, FrontMoved, lastSums, cutSums}
 use Rattle.splicing.proofs.RelinkWords.{Rewired, Ready, Replaced, rewired-none, rewired-turn, replaced-none, replaced-turn}
 use Rattle.splicing.proofs.RelinkLaws.{ready, relinked}
 

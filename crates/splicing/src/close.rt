@@ -1,7 +1,7 @@
 // Closing an open list.
 ghost use mathlib.Core.List.{List};
 ghost use Prim.Native.Nat.{ℕ};
-ghost use Rattle.splicing.specs.Open.{OpenLinked, EndsOf, Closed};
+ghost use Rattle.splicing.specs.inside.Open.{OpenLinked, EndsOf, Closed};
 use arena::words::FORWARD;
 use arena::words::store;
 

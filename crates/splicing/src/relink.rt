@@ -2,9 +2,9 @@
 ghost use mathlib.Core.Path.{_≡_};
 ghost use Prim.Native.Nat.{_<_};
 ghost use lib.ListN.{length};
-ghost use Rattle.arena.specs.Chain.{Has};
-ghost use Rattle.arena.specs.Turning.{RenewedBelow};
-ghost use Rattle.splicing.specs.Open.{relinkOne, FrontReady, FrontMoved, lastSums, cutSums};
+ghost use Rattle.arena.specs.inside.Chain.{Has};
+ghost use Rattle.arena.specs.inside.Turning.{RenewedBelow};
+ghost use Rattle.splicing.specs.inside.Open.{relinkOne, FrontReady, FrontMoved, lastSums, cutSums};
 use arena::words::ADJUST;
 use arena::words::FORWARD;
 use arena::words::get;

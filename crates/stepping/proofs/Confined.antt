@@ -4,14 +4,14 @@ use mathlib.Core.Path.{_≡_, sym, _∙_}
 use mathlib.Core.List.{List, _∷_, _++_}
 use Prim.Native.Nat.{ℕ, _+_}
 use native.Mathlib.Omega.{arith}
-use Rattle.arena.specs.Chain.{Away}
+use Rattle.arena.specs.inside.Chain.{Away}
 use Rattle.arena.proofs.ListLaws.{all-append}
 use Rattle.arena.proofs.PutLaws.{same-trans}
-use Rattle.searching.specs.Cut.{front, behind}
+use Rattle.searching.specs.inside.Cut.{front, behind}
 use Rattle.searching.proofs.CutLaws.{all-front, all-behind}
-use Rattle.dropping.specs.Dropping.{Dropped}
-use Rattle.moving.specs.Advance.{MovedFront}
-use Rattle.stepping.specs.Running.{Confined}
+use Rattle.dropping.specs.inside.Dropping.{Dropped}
+use Rattle.moving.specs.inside.Advance.{MovedFront}
+use Rattle.stepping.specs.inside.Running.{Confined}
 
 module _ (a₀ a b : List ℕ) (ho hn hc key q r : ℕ) (xs₀ ys₀ xs ys cs ends' : List ℕ) (w : Confined a₀ a ho hn hc xs₀ ys₀ (r ∷ xs) ys cs) (d : MovedFront a b ho hc key q cs (r ∷ xs) ends') where
   abbrev fr : List ℕ

@@ -9,8 +9,8 @@ use Rattle.slicing.specs.Item.{size}
 use Rattle.slicing.specs.Recorded.{Recorded}
 use Rattle.slicing.proofs.Batch.{raisedOlder, raisedNewer}
 use Rattle.arena.specs.Arena.{mWord}
-use Rattle.arena.specs.Chain.{wrap, trues}
-use Rattle.arena.specs.Carried.{paired, carried}
+use Rattle.arena.specs.inside.Chain.{wrap, trues}
+use Rattle.arena.specs.inside.Carried.{paired, carried}
 use Rattle.arena.proofs.Frames.{all-refl}
 use Rattle.arena.proofs.CarriedLaws.{trues-length, paired-append, paired-frame}
 

@@ -5,16 +5,16 @@ use mathlib.Core.List.{List, _∷_, _++_}
 use Prim.Native.Nat.{ℕ, _+_, _^_, _≤_, _<_}
 use native.Mathlib.Omega.{arith}
 use Rattle.arena.specs.Arena.{word, level, mWord, adjust}
-use Rattle.arena.specs.Chain.{Has, pUnder}
-use Rattle.arena.specs.Turning.{Summable}
+use Rattle.arena.specs.inside.Chain.{Has, pUnder}
+use Rattle.arena.specs.inside.Turning.{Summable}
 use Rattle.arena.proofs.Summing.{suffixes-agree}
-use Rattle.searching.specs.Cut.{front, behind}
+use Rattle.searching.specs.inside.Cut.{front, behind}
 use Rattle.searching.proofs.CutLaws.{behind-shorter, all-front}
 use Rattle.dropping.proofs.DropLaws.{same-first, first-has}
-use Rattle.settling.specs.Cached.{Cached}
-use Rattle.moving.specs.Advance.{Movable, MovedFront, RunMoved}
-use Rattle.stepping.specs.Trio.{Kept}
-use Rattle.stepping.specs.Running.{Waiting, Task, Further, Both, waitingIn, NewerFirst, NewerReady, NewerDone}
+use Rattle.settling.specs.inside.Cached.{Cached}
+use Rattle.moving.specs.inside.Advance.{Movable, MovedFront, RunMoved}
+use Rattle.stepping.specs.inside.Trio.{Kept}
+use Rattle.stepping.specs.inside.Running.{Waiting, Task, Further, Both, waitingIn, NewerFirst, NewerReady, NewerDone}
 use Rattle.stepping.proofs.TrioLaws.{trio-swap, trio-movable}
 use Rattle.stepping.proofs.Steps.{newer-moves}
 use Rattle.stepping.proofs.Confined.{confined-swap, confined-moved}

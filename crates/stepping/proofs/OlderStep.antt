@@ -7,21 +7,21 @@ use native.Mathlib.Omega.{arith}
 use lib.ListN.{length, getD}
 use Rattle.arena.specs.Arena.{word, level, mWord, adjust}
 use Rattle.arena.specs.Lazy.{lastWith}
-use Rattle.arena.specs.Chain.{Has, All, Away, Member, Linked, pUnder, after, growing}
-use Rattle.arena.specs.Turning.{Summable, Renewed}
+use Rattle.arena.specs.inside.Chain.{Has, All, Away, Member, Linked, pUnder, after, growing}
+use Rattle.arena.specs.inside.Turning.{Summable, Renewed}
 use Rattle.arena.proofs.ListLaws.{last-all, all-append}
 use Rattle.arena.proofs.Cases.{eq-or-ne}
 use Rattle.arena.proofs.Summing.{suffixes-agree}
 use Rattle.arena.proofs.Frames.{chain-has}
-use Rattle.searching.specs.Cut.{front, behind}
+use Rattle.searching.specs.inside.Cut.{front, behind}
 use Rattle.searching.proofs.CutLaws.{behind-shorter, all-front}
-use Rattle.dropping.specs.Dropping.{Dropped, Tied, DroppedTied}
+use Rattle.dropping.specs.inside.Dropping.{Dropped, Tied, DroppedTied}
 use Rattle.dropping.proofs.DropLaws.{same-first, first-has}
-use Rattle.splicing.specs.Open.{lastSums}
-use Rattle.settling.specs.Cached.{Cached}
-use Rattle.moving.specs.Advance.{Movable, MovedFront, RunMoved}
-use Rattle.stepping.specs.Trio.{Kept}
-use Rattle.stepping.specs.Running.{Waiting, Confined, Task, Further, Both, waitingIn, OlderFirst, OlderReady, OlderDone}
+use Rattle.splicing.specs.inside.Open.{lastSums}
+use Rattle.settling.specs.inside.Cached.{Cached}
+use Rattle.moving.specs.inside.Advance.{Movable, MovedFront, RunMoved}
+use Rattle.stepping.specs.inside.Trio.{Kept}
+use Rattle.stepping.specs.inside.Running.{Waiting, Confined, Task, Further, Both, waitingIn, OlderFirst, OlderReady, OlderDone}
 use Rattle.stepping.proofs.TrioLaws.{trio-movable, trio-moved}
 use Rattle.stepping.proofs.Steps.{older-stays, older-drops}
 use Rattle.stepping.proofs.Confined.{confined-moved, confined-dropped}

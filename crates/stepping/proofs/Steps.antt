@@ -14,20 +14,20 @@ use Rattle.slicing.specs.Good.{Ordered}
 use Rattle.slicing.specs.Recorded.{Recorded, mergeRecorded, items}
 use Rattle.slicing.proofs.Batch.{raisedOlder, raisedNewer, leftAfter, batch-run, batch-newer}
 use Rattle.arena.specs.Arena.{level, mWord, adjust}
-use Rattle.arena.specs.Chain.{growing, All, pUnder, after, trues, leaving}
+use Rattle.arena.specs.inside.Chain.{growing, All, pUnder, after, trues, leaving}
 use Rattle.arena.specs.Lazy.{lastWith}
-use Rattle.arena.specs.Carried.{paired, carried}
+use Rattle.arena.specs.inside.Carried.{paired, carried}
 use Rattle.arena.proofs.Cases.{lt-or-ge}
 use Rattle.arena.proofs.ListLaws.{all-right, last-here, last-append}
 use Rattle.arena.proofs.Frames.{all-map, chain-low}
 use Rattle.arena.proofs.CarriedLaws.{trues-length, carried-cons, carried-append, carried-frame}
-use Rattle.searching.specs.Cut.{front, behind}
+use Rattle.searching.specs.inside.Cut.{front, behind}
 use Rattle.searching.proofs.SearchLaws.{front-in}
 use Rattle.searching.proofs.CutLaws.{front-behind}
-use Rattle.dropping.specs.Dropping.{Dropped}
-use Rattle.moving.specs.Advance.{MovedFront}
-use Rattle.stepping.specs.Trio.{Roomy}
-use Rattle.stepping.specs.Running.{Waiting, Running}
+use Rattle.dropping.specs.inside.Dropping.{Dropped}
+use Rattle.moving.specs.inside.Advance.{MovedFront}
+use Rattle.stepping.specs.inside.Trio.{Roomy}
+use Rattle.stepping.specs.inside.Running.{Waiting, Running}
 use Rattle.stepping.proofs.TrioLaws.{trio-swap, trio-moved, newer-carried, trio-dropped, dropped-older, dropped-result, dropped-newer}
 use Rattle.stepping.proofs.MovedLaws.{Below, moved-older, moved-newer}
 

@@ -6,18 +6,18 @@ use Prim.Native.Nat.{ℕ, _+_, _≤_}
 use native.Mathlib.Omega.{arith}
 use lib.ListN.{length, length-append}
 use Rattle.arena.specs.Arena.{mWord, adjust}
-use Rattle.arena.specs.Chain.{All, Away, Chain, after, Same}
-use Rattle.arena.specs.Carried.{carried}
+use Rattle.arena.specs.inside.Chain.{All, Away, Chain, after, Same}
+use Rattle.arena.specs.inside.Carried.{carried}
 use Rattle.arena.proofs.ListLaws.{all-append, apart-swap, apart-from}
 use Rattle.arena.proofs.Frames.{all-map, same-shape, same-value, linked-frame, trues-frame}
 use Rattle.arena.proofs.CarriedLaws.{carried-frame}
-use Rattle.searching.specs.Cut.{front, Falling, Searchable, behind}
+use Rattle.searching.specs.inside.Cut.{front, Falling, Searchable, behind}
 use Rattle.searching.proofs.SearchLaws.{falling-right}
 use Rattle.searching.proofs.CutLaws.{front-behind, all-front, all-behind}
-use Rattle.dropping.specs.Dropping.{Dropped}
+use Rattle.dropping.specs.inside.Dropping.{Dropped}
 use Rattle.splicing.proofs.OpenLaws.{ends-frame}
-use Rattle.moving.specs.Advance.{Movable, MovedFront}
-use Rattle.stepping.specs.Trio.{Trio}
+use Rattle.moving.specs.inside.Advance.{Movable, MovedFront}
+use Rattle.stepping.specs.inside.Trio.{Trio}
 
 -- The older list and the newer one in each other's place.
 pub trio-swap : (a : List ℕ) (ho hn hc : ℕ) (xs ys cs ends : List ℕ) → Trio a ho hn hc xs ys cs ends → Trio a hn ho hc ys xs cs ends

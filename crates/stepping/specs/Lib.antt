@@ -1,2 +1,1 @@
-pub mod Trio
-pub mod Running
+pub mod inside

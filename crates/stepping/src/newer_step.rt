@@ -1,6 +1,6 @@
 // The step of the merge that moves a run of the newer list.
-ghost use Rattle.stepping.specs.Trio.{Kept};
-ghost use Rattle.stepping.specs.Running.{NewerReady, NewerDone};
+ghost use Rattle.stepping.specs.inside.Trio.{Kept};
+ghost use Rattle.stepping.specs.inside.Running.{NewerReady, NewerDone};
 use crate::SECOND;
 use arena::sums::true_p;
 use arena::words::FORWARD;

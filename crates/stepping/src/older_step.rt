@@ -1,6 +1,6 @@
 // The step of the merge that moves a run of the older list.
-ghost use Rattle.stepping.specs.Trio.{Kept};
-ghost use Rattle.stepping.specs.Running.{OlderReady, OlderDone};
+ghost use Rattle.stepping.specs.inside.Trio.{Kept};
+ghost use Rattle.stepping.specs.inside.Running.{OlderReady, OlderDone};
 use crate::SECOND;
 use arena::sums::true_p;
 use arena::words::FORWARD;

@@ -7,8 +7,8 @@ use native.Mathlib.Omega.{arith}
 use lib.ListN.{length, getD, set, length-set}
 use lib.Seq.{lt-length-set, getD-set-same, getD-set-other}
 use Rattle.slicing.specs.Item.{Item}
-use Rattle.stored.specs.Packed.{HasList}
-use Rattle.stored.specs.Filling.{entryAt, Added}
+use Rattle.stored.specs.inside.Packed.{HasList}
+use Rattle.stored.specs.inside.Filling.{entryAt, Added}
 
 -- Each of the four words is inside.
 pub room-second : (s : List ℕ) (e v : ℕ) → 4 * e + 4 ≤ length s → 4 * e + 1 < length (set s (4 * e) v)

@@ -17,17 +17,17 @@ use Rattle.facefile.specs.declared.walk.GaugeEntry.{GaugeEntry}
 use Rattle.facefile.specs.declared.walk.Entry.{Entry as FileEntry}
 use Rattle.facefile.specs.declared.walk.Entry.the-variants.{Gauge, Join}
 use Rattle.facefile.specs.Format.{faceOf}
-use Rattle.facefile.specs.Kinds.{Cut, cut-beside, cut-stacked}
-use Rattle.facefile.specs.Sizes.{sizesIn, Sized}
-use Rattle.facefile.specs.Tracking.{flat}
-use Rattle.facefile.specs.Walk.{firstEntry, Walk, sizeBytesOf, GaugeAt, JoinAt, Finds}
+use Rattle.facefile.specs.inside.Kinds.{Cut, cut-beside, cut-stacked}
+use Rattle.facefile.specs.inside.Sizes.{sizesIn, Sized}
+use Rattle.facefile.specs.inside.Tracking.{flat}
+use Rattle.facefile.specs.inside.Walk.{firstEntry, Walk, sizeBytesOf, GaugeAt, JoinAt, Finds}
 use Rattle.facefile.proofs.SizesIn.{in-length}
 use Rattle.facefile.proofs.WalkSteps.{walk-start, walk-end, found-gauge, found-join}
 use Rattle.facefile.proofs.WalkStack.{walk-good, walk-gauges, walk-face, join-good, join-gauges}
-use Rattle.stored.specs.Packed.{ownShapes}
-use Rattle.stored.specs.Store.{Entry, Stored}
-use Rattle.stored.specs.Filling.{Between, Lies, Added, Rows, Fillable, Filled}
-use Rattle.stored.specs.Adding.{Room, JoinRoom}
+use Rattle.stored.specs.inside.Packed.{ownShapes}
+use Rattle.stored.specs.inside.Store.{Entry, Stored}
+use Rattle.stored.specs.inside.Filling.{Between, Lies, Added, Rows, Fillable, Filled}
+use Rattle.stored.specs.inside.Adding.{Room, JoinRoom}
 use Rattle.stored.proofs.OwnLists.{entry-of, own-length, own-few, cut-gauges, cut-short}
 use Rattle.stored.proofs.StoredRows.{stored-frame, lies-frame, rows-frame, rows-total, used, used-few}
 

@@ -9,7 +9,7 @@ use lib.ListN.{length, set, length-set}
 use borrow.Author.Tests.{eqb-true, eqb-false}
 use Rattle.checks.proofs.Cases.{by-test}
 use Rattle.slicing.specs.Item.{Item}
-use Rattle.stored.specs.Joining.{AtItem, Joinable, Joined}
+use Rattle.stored.specs.inside.Joining.{AtItem, Joinable, Joined}
 use Rattle.stored.specs.declared.merge.Stretch.{Stretch}
 use Rattle.stored.proofs.Merging.{Reads, Goes, merging-room, merging-past, merging-fits, one-goes, merging-turn}
 use Rattle.stored.proofs.Places.{ReadAt, Moved, one-on, on-moved, not-moved, left, at-more, at-between, at-moved, left-is}

@@ -8,12 +8,12 @@ use native.Mathlib.Omega.{arith}
 use lib.ListN.{length, getD}
 use Rattle.slicing.specs.Item.{Item}
 use Rattle.slicing.specs.Tree.{Tree, gaugeCount}
-use Rattle.facefile.specs.Kinds.{kindOf, across}
-use Rattle.stored.specs.Packed.{ownShapes, HasList}
-use Rattle.stored.specs.Store.{Entry}
-use Rattle.stored.specs.Joining.{mergeOf, Joinable, Joined}
-use Rattle.stored.specs.Filling.{entryAt, stretchOf, Added}
-use Rattle.stored.specs.Adding.{JoinRoom}
+use Rattle.facefile.specs.inside.Kinds.{kindOf, across}
+use Rattle.stored.specs.inside.Packed.{ownShapes, HasList}
+use Rattle.stored.specs.inside.Store.{Entry}
+use Rattle.stored.specs.inside.Joining.{mergeOf, Joinable, Joined}
+use Rattle.stored.specs.inside.Filling.{entryAt, stretchOf, Added}
+use Rattle.stored.specs.inside.Adding.{JoinRoom}
 use Rattle.stored.specs.declared.merge.Stretch.{Stretch}
 use Rattle.stored.proofs.Merging.{sums-low}
 use Rattle.stored.proofs.EntryLaws.{entry-added}

@@ -11,8 +11,8 @@ use lib.ListN.{length, getD, set, drop, length-set, length-append, drop-of-lengt
 use lib.Seq.{drop-cons, drop-drop, getD-set-other}
 use Rattle.slicing.specs.Item.{Item, size}
 use Rattle.slicing.specs.Merge.{merge}
-use Rattle.stored.specs.Packed.{pack, HasList}
-use Rattle.stored.specs.Joining.{readAs, mergeOf, Joinable, Joined}
+use Rattle.stored.specs.inside.Packed.{pack, HasList}
+use Rattle.stored.specs.inside.Joining.{readAs, mergeOf, Joinable, Joined}
 use Rattle.stored.specs.declared.merge.Stretch.{Stretch}
 use Rattle.stored.proofs.Reading.{ItemWord}
 use Rattle.stored.proofs.StoredLists.{Low, facing-length, facing-low, m-is, p-is, place-in, has-one, has-grown}

@@ -9,11 +9,11 @@ use lib.ListN.{length, getD, set, take, length-set}
 use lib.Seq.{getD-set-other, length-take-le, take-suc, take-all}
 use Rattle.slicing.specs.Item.{Item, size}
 use Rattle.facefile.specs.declared.Size.{Size}
-use Rattle.facefile.specs.Sizes.{sizesIn, SizeIn}
+use Rattle.facefile.specs.inside.Sizes.{sizesIn, SizeIn}
 use Rattle.facefile.proofs.SizesIn.{in-length}
-use Rattle.stored.specs.Packed.{pack, HasList}
-use Rattle.stored.specs.Filling.{entryAt, Added}
-use Rattle.stored.specs.Adding.{Room}
+use Rattle.stored.specs.inside.Packed.{pack, HasList}
+use Rattle.stored.specs.inside.Filling.{entryAt, Added}
+use Rattle.stored.specs.inside.Adding.{Room}
 use Rattle.stored.proofs.StoredLists.{has-grown}
 use Rattle.stored.proofs.EntryLaws.{entry-added}
 

@@ -7,7 +7,7 @@ use Prim.Native.Nat.{ℕ, _+_, _*_, _-_, _/_, _%_, _≤_, _<_}
 use native.Mathlib.Omega.{arith}
 use lib.ListN.{getD}
 use Rattle.checks.proofs.Cases.{by-test}
-use Rattle.stored.specs.Joining.{AtItem}
+use Rattle.stored.specs.inside.Joining.{AtItem}
 use Rattle.stored.specs.declared.merge.Stretch.{Stretch}
 use Rattle.stored.proofs.Reading.{read-along, read-across}
 use Rattle.stored.proofs.Merging.{Reads}

@@ -11,11 +11,11 @@ use Rattle.slicing.specs.Tree.{Tree, gauge, beside, stacked, gaugesOf, gaugeCou
 use Rattle.slicing.proofs.Depths.{depth-few}
 use Rattle.slicing.proofs.Counts.{counted}
 use Rattle.slicing.proofs.Stored.{storedItems, stored-few}
-use Rattle.facefile.specs.Tracking.{flat}
+use Rattle.facefile.specs.inside.Tracking.{flat}
 use Rattle.facefile.proofs.Taken.{GoodParts}
-use Rattle.stored.specs.Packed.{ownShapes, HasList}
-use Rattle.stored.specs.Store.{Entry, Stored}
-use Rattle.stored.specs.Filling.{Between, Lies, Rows}
+use Rattle.stored.specs.inside.Packed.{ownShapes, HasList}
+use Rattle.stored.specs.inside.Store.{Entry, Stored}
+use Rattle.stored.specs.inside.Filling.{Between, Lies, Rows}
 
 module _ (s z : List ℕ) (e to up : ℕ) (long : length z ≡ length s) (table : (i : ℕ) → i < 4 * e → getD z i 0 ≡ getD s i 0) (lists : (i : ℕ) → 508 ≤ i → i < to → getD z i 0 ≡ getD s i 0) (after : to ≤ up) where
   between-frame : (x : ℕ) (t : Tree) → x < e → Between s to x t → Between z up x t

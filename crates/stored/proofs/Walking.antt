@@ -5,7 +5,7 @@ use mathlib.Core.List.{List}
 use Prim.Native.Nat.{ℕ, _-_, _^_, _≤_, _<_}
 use native.Mathlib.Omega.{arith}
 use Rattle.slicing.specs.Item.{Item}
-use Rattle.stored.specs.Joining.{Within, AtItem, Joinable, Joined}
+use Rattle.stored.specs.inside.Joining.{Within, AtItem, Joinable, Joined}
 use Rattle.stored.specs.declared.merge.Stretch.{Stretch}
 use Rattle.stored.proofs.Merging.{Reads, Merging, merging-start, merging-older-out, merging-newer-out}
 use Rattle.stored.proofs.Places.{ReadAt, read-kept, at-more, at-out, at-between, at-reads}

@@ -1,5 +1,1 @@
-pub mod Packed
-pub mod Store
-pub mod Filling
-pub mod Adding
-pub mod Joining
+pub mod inside

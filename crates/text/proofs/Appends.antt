@@ -7,7 +7,7 @@ use native.Mathlib.Omega.{arith}
 use lib.ListN.{length, set, drop, length-append}
 use lib.Seq.{sets, sets-eq, length-sets, length-take-le}
 use Rattle.text.specs.Printing.{Printed, Counted}
-use Rattle.text.specs.Appending.{Appended}
+use Rattle.text.specs.inside.Appending.{Appended}
 
 sets-joined : (a b old : List ℕ) (i : ℕ) → sets (sets old i a) (i + length a) b ≡ sets old i (a ++ b)
 sets-joined [] b old i = ap (λ (k : ℕ). sets old k b) (omega arith)

@@ -6,7 +6,7 @@ use Prim.Native.Nat.{ℕ, suc, _+_, _≤_, _<_}
 use native.Mathlib.Omega.{arith}
 use lib.ListN.{length, getD, set, drop, length-set, drop-of-length-le}
 use lib.Seq.{sets, drop-cons}
-use Rattle.text.specs.Appending.{Appended}
+use Rattle.text.specs.inside.Appending.{Appended}
 
 pub record Copying (old : List ℕ) (at : ℕ) (bytes text : List ℕ) (i : ℕ) : Type 0 where
   pub within : i ≤ length bytes

@@ -7,7 +7,7 @@ use native.Mathlib.Omega.{arith}
 use lib.ListN.{length, set}
 use Rattle.text.specs.Decimal.{digit, decimal}
 use Rattle.text.specs.Fields.{field, named}
-use Rattle.text.specs.Appending.{Appended}
+use Rattle.text.specs.inside.Appending.{Appended}
 use Rattle.text.proofs.Decimals.{decimal-small, decimal-large}
 use Rattle.text.proofs.Lengths.{decimal-short, decimal-longer}
 use Rattle.text.proofs.Appends.{one, same-bytes, joined, appended-length, first-room, rest-room}

@@ -1,4 +1,4 @@
 pub mod Decimal
 pub mod Fields
-pub mod Appending
 pub mod Printing
+pub mod inside

@@ -4,7 +4,7 @@ ghost use Prim.Native.Nat.{_+_, _≤_};
 ghost use lib.ListN.{length};
 ghost use Rattle.text.specs.Decimal.{decimal};
 ghost use Rattle.text.specs.Fields.{field, named};
-ghost use Rattle.text.specs.Appending.{Appended};
+ghost use Rattle.text.specs.inside.Appending.{Appended};
 
 // Copies bytes.
 pub fn write_bytes(text: &mut [u8], at: usize, bytes: &[u8]) -> usize

@@ -1,7 +1,7 @@
 -- `arena::prepend::hook` meets its contract.
 -- Its three stores are those of `hook1`, in the same order.
 use borrow.Author.Needs.{needs}
-use Rattle.arena.specs.Building.{hook1}
+use Rattle.arena.specs.inside.Building.{hook1}
 use Rattle.arena.proofs.prepend.hook.Statement.{statement}
 use Rattle.arena.proofs.prepend.hook.Tie as tie
 

@@ -1,7 +1,7 @@
 -- `arena::turn::turn` meets its contract.
 -- The loop keeps `Turning`, that all records are turned if those left are; the measure is their number, counted along the first link.
 use borrow.Author.Needs.{needs}
-use Rattle.arena.specs.Chain.{put}
+use Rattle.arena.specs.inside.Chain.{put}
 use Rattle.arena.proofs.Walking.{count}
 use Rattle.arena.proofs.TurnWalk.{Turning, cleared-enterable, turning-start, turning-head, turning-has, turning-can, turning-less, turning-more, turning-done}
 use Rattle.arena.proofs.turn.turn.Statement.{statement}

@@ -2,7 +2,7 @@
 -- What it writes is `put` of a wrapping sum by the definitions; the index is inside since the arena has the whole record.
 use borrow.Author.Needs.{needs}
 use Rattle.arena.specs.Arena.{word}
-use Rattle.arena.specs.Chain.{put, wrap}
+use Rattle.arena.specs.inside.Chain.{put, wrap}
 use Rattle.arena.proofs.words.raise.Statement.{statement}
 use Rattle.arena.proofs.words.raise.Tie as tie
 

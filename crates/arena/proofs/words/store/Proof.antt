@@ -2,7 +2,7 @@
 -- What it writes is `put` by its definition; the index is inside since the arena has the whole record.
 use borrow.Author.Needs.{needs}
 use mathlib.Core.Path.{refl}
-use Rattle.arena.specs.Chain.{put}
+use Rattle.arena.specs.inside.Chain.{put}
 use Rattle.arena.proofs.words.store.Statement.{statement}
 use Rattle.arena.proofs.words.store.Tie as tie
 

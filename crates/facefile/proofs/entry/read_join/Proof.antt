@@ -1,6 +1,6 @@
 -- `facefile::entry::read_join` meets its contract, for both kinds of join.
 -- What it does hangs on the number of parts alone, and a join of either kind has the gauges and sizes of its two parts.
-use Rattle.facefile.specs.Kinds.{cut-beside, cut-stacked}
+use Rattle.facefile.specs.inside.Kinds.{cut-beside, cut-stacked}
 use Rattle.facefile.proofs.Entries.{join-lacks, join-taken}
 use borrow.Author.Needs.{needs}
 use Rattle.facefile.proofs.entry.read_join.Statement.{statement}

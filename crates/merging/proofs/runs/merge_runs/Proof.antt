@@ -3,8 +3,8 @@
 use mathlib.Core.Path.{_≡_, sym, _∙_}
 use native.Mathlib.Omega.{arith}
 use borrow.Author.Needs.{needs}
-use Rattle.stepping.specs.Trio.{Kept}
-use Rattle.merging.specs.Runs.{bothWait}
+use Rattle.stepping.specs.inside.Trio.{Kept}
+use Rattle.merging.specs.inside.Runs.{bothWait}
 use Rattle.merging.proofs.RunsLaws.{Goes, waiting, goes-start, goes-ready, goes-turn, goes-less, goes-done}
 use Rattle.merging.proofs.runs.merge_runs.Statement.{statement}
 use Rattle.merging.proofs.runs.merge_runs.Tie as tie

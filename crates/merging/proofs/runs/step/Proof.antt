@@ -5,7 +5,7 @@ use Prim.Native.Nat.{_≤_, _<_}
 use native.Mathlib.Omega.{arith}
 use borrow.Author.Needs.{needs}
 use Rattle.arena.specs.Arena.{word}
-use Rattle.stepping.specs.Running.{OlderReady, NewerReady}
+use Rattle.stepping.specs.inside.Running.{OlderReady, NewerReady}
 use Rattle.merging.proofs.Stepping.{step-older-has, step-newer-has, step-older, step-newer, step-older-done, step-newer-done}
 use Rattle.merging.proofs.runs.step.Statement.{statement}
 use Rattle.merging.proofs.runs.step.Tie as tie

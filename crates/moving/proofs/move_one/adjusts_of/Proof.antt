@@ -8,7 +8,7 @@ use lib.Seq.{getD-set-same, getD-set-other}
 use borrow.Author.Count.{below-more}
 use borrow.Author.Needs.{needs}
 use Rattle.arena.specs.Arena.{adjust}
-use Rattle.splicing.specs.Open.{cutSums}
+use Rattle.splicing.specs.inside.Open.{cutSums}
 use Rattle.moving.proofs.move_one.adjusts_of.Statement.{statement}
 use Rattle.moving.proofs.move_one.adjusts_of.Tie as tie
 

@@ -4,9 +4,9 @@ use mathlib.Core.Path.{_≡_, _∙_}
 use native.Mathlib.Omega.{arith}
 use borrow.Author.Needs.{needs}
 use Rattle.arena.specs.Arena.{word}
-use Rattle.splicing.specs.Open.{lastSums}
-use Rattle.settling.specs.Cached.{MakesUp}
-use Rattle.settling.specs.Settled.{headSums}
+use Rattle.splicing.specs.inside.Open.{lastSums}
+use Rattle.settling.specs.inside.Cached.{MakesUp}
+use Rattle.settling.specs.inside.Settled.{headSums}
 use Rattle.moving.proofs.OneLaws.{first-has, first-level, still-has, all-one, first-relinkable, first-moved, first-cached}
 use Rattle.moving.proofs.move_one.move_one.Statement.{statement}
 use Rattle.moving.proofs.move_one.move_one.Tie as tie

@@ -2,9 +2,9 @@
 -- The walk settles the front, and `RunLaws` puts it together with the one link that is changed.
 use mathlib.Core.List.{_∷_}
 use borrow.Author.Needs.{needs}
-use Rattle.splicing.specs.Open.{lastSums}
-use Rattle.settling.specs.Cached.{MakesUp}
-use Rattle.settling.specs.Settled.{headSums}
+use Rattle.splicing.specs.inside.Open.{lastSums}
+use Rattle.settling.specs.inside.Cached.{MakesUp}
+use Rattle.settling.specs.inside.Settled.{headSums}
 use Rattle.moving.proofs.RunLaws.{run-has, run-moved, run-cached}
 use Rattle.moving.proofs.walk_run.walk_run.Statement.{statement}
 use Rattle.moving.proofs.walk_run.walk_run.Tie as tie

@@ -4,7 +4,7 @@ use borrow.Author.Needs.{needs}
 use mathlib.Core.Path.{_≡_, sym, _∙_}
 use native.Mathlib.Omega.{arith}
 use Rattle.arena.proofs.Walking.{count}
-use Rattle.searching.specs.Cut.{passes}
+use Rattle.searching.specs.inside.Cut.{passes}
 use Rattle.searching.proofs.Passing.{Passing, link-reach, passing-start, passing-reach, passing-has, passing-less, passing-more, passing-done}
 use Rattle.searching.proofs.walk.walk.Statement.{statement}
 use Rattle.searching.proofs.walk.walk.Tie as tie

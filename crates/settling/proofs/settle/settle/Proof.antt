@@ -6,8 +6,8 @@ use Prim.Native.Nat.{ℕ, _+_, _-_}
 use native.Mathlib.Omega.{arith}
 use borrow.Author.Needs.{needs}
 use Rattle.arena.specs.Arena.{word}
-use Rattle.arena.specs.Chain.{Has}
-use Rattle.settling.specs.Lift.{Chained}
+use Rattle.arena.specs.inside.Chain.{Has}
+use Rattle.settling.specs.inside.Lift.{Chained}
 use Rattle.settling.proofs.Settling.{Settling, ready-cut, settling-start, settling-chained, settling-turn, lowest-chained, settling-done, heads-has}
 use Rattle.settling.proofs.settle.settle.Statement.{statement}
 use Rattle.settling.proofs.settle.settle.Tie as tie

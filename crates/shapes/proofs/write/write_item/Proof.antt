@@ -3,7 +3,7 @@
 use borrow.Author.Needs.{needs}
 use native.Mathlib.Omega.{arith}
 use lib.ListN.{length-set}
-use Rattle.shapes.specs.Writing.{itemAt}
+use Rattle.shapes.specs.inside.Writing.{itemAt}
 use Rattle.shapes.proofs.write.write_item.Statement.{statement}
 use Rattle.shapes.proofs.write.write_item.Tie as tie
 

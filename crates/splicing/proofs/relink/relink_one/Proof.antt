@@ -1,7 +1,7 @@
 -- `splicing::relink::relink_one` meets its contract: the three stores are `relinkOne`.
 -- Each word that is stored is the one that the definition reads, from the arena as it is then.
 use borrow.Author.Needs.{needs}
-use Rattle.splicing.specs.Open.{passOn, relinkOne}
+use Rattle.splicing.specs.inside.Open.{passOn, relinkOne}
 use Rattle.splicing.proofs.relink.relink_one.Statement.{statement}
 use Rattle.splicing.proofs.relink.relink_one.Tie as tie
 

@@ -5,8 +5,8 @@ use mathlib.Core.Bool.{Bool}
 use Prim.Native.Nat.{_+_}
 use borrow.Author.Needs.{needs}
 use Rattle.arena.specs.Arena.{word, forward, adjust}
-use Rattle.arena.specs.Chain.{pUnder}
-use Rattle.searching.specs.Cut.{passes}
+use Rattle.arena.specs.inside.Chain.{pUnder}
+use Rattle.searching.specs.inside.Cut.{passes}
 use Rattle.searching.proofs.Passing.{link-reach}
 use Rattle.moving.proofs.RunLaws.{second-passes}
 use Rattle.stepping.proofs.NewerStep.{newer-has, newer-room, newer-movable, newer-summable, newer-cached, newer-kept, newer-done}

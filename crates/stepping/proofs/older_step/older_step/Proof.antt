@@ -5,8 +5,8 @@ use mathlib.Core.Bool.{Bool}
 use native.Mathlib.Omega.{arith}
 use borrow.Author.Needs.{needs}
 use Rattle.arena.specs.Arena.{word, forward, adjust}
-use Rattle.arena.specs.Chain.{pUnder}
-use Rattle.searching.specs.Cut.{passes}
+use Rattle.arena.specs.inside.Chain.{pUnder}
+use Rattle.searching.specs.inside.Cut.{passes}
 use Rattle.searching.proofs.Passing.{link-reach}
 use Rattle.moving.proofs.RunLaws.{second-passes}
 use Rattle.stepping.proofs.OlderStep.{older-has, older-summable, older-movable, older-moved, tied, older-done, tied-kept}

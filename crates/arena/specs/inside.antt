@@ -1,0 +1,4 @@
+pub mod Chain
+pub mod Building
+pub mod Turning
+pub mod Carried

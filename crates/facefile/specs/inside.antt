@@ -1,0 +1,5 @@
+pub mod Tracking
+pub mod Finding
+pub mod Kinds
+pub mod Sizes
+pub mod Walk

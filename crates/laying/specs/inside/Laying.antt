@@ -1,0 +1,34 @@
+-- A stored part that is laid out, and the words that its layout is written as. No public contract cites it.
+use mathlib.Core.Path.{_≡_}
+use mathlib.Core.Bool.{Bool, cond}
+use mathlib.Core.List.{List, _++_}
+use Prim.Native.Nat.{ℕ, _+_, _*_, _^_, _≤_, _<_}
+use lib.ListN.{length, getD, drop}
+use Rattle.slicing.specs.Item.{Item, size, height, width}
+use Rattle.slicing.specs.Tree.{Tree, gaugeCount}
+use Rattle.slicing.specs.Good.{Good}
+use Rattle.slicing.specs.Shapes.{shapes}
+use Rattle.slicing.specs.Fit.{place, words}
+use Rattle.stored.specs.inside.Store.{Stored}
+
+-- The item at a place of the part's shape list.
+abbrev pub shapeAt : Tree → ℕ → Item
+shapeAt t k = getD (shapes 0 t) k (size 0 0)
+
+-- A place across or up, moved on or not.
+abbrev pub movedBy : Bool → ℕ → ℕ → ℕ
+movedBy goes at by = cond goes (at + by) at
+
+-- The part stands in the scratch, the place is in its shape list, its layout's words fit the output, and its edges fit a word.
+pub record Layable (s : List ℕ) (part : ℕ) (t : Tree) (gauges k x y : ℕ) (out : List ℕ) : Type 0 where
+  pub stored : Stored s part t
+  pub good : Good t
+  pub gauges-is : gauges ≡ gaugeCount t
+  pub in-list : k < length (shapes 0 t)
+  pub room : 5 * gaugeCount t ≤ length out
+  pub across : x + width (shapeAt t k) < 2 ^ 32
+  pub up : y + height (shapeAt t k) < 2 ^ 32
+
+-- The output with the words of the layout at its start.
+unfoldable pub laid : Tree → ℕ → ℕ → ℕ → List ℕ → List ℕ
+laid t k x y out = words t (place 0 t (shapeAt t k) x y) ++ drop (5 * gaugeCount t) out

@@ -1,0 +1,5 @@
+pub mod Loading
+pub mod Part
+pub mod Copying
+pub mod Joining
+pub mod Building

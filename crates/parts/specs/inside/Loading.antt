@@ -1,0 +1,43 @@
+-- How the sizes of a gauge become a list of records. No public contract cites it.
+use mathlib.Core.Path.{_≡_}
+use mathlib.Core.List.{List, [], _∷_, map}
+use Prim.Native.Nat.{ℕ, zero, suc, _+_, _*_, _≤_, _<_}
+use lib.ListN.{length, getD}
+use Rattle.slicing.specs.Item.{Item}
+use Rattle.facefile.specs.inside.Sizes.{sizesIn, Sized}
+use Rattle.arena.specs.Arena.{stride, level, mWord}
+use Rattle.arena.specs.inside.Chain.{Has, put, Away, trues, Same}
+use Rattle.arena.specs.inside.Building.{Hooked, Built}
+
+-- The n numbers from r on.
+unfoldable pub numbers : ℕ → ℕ → List ℕ
+numbers r zero = []
+numbers r (suc n) = r ∷ numbers (suc r) n
+
+-- Record r with a level, m and p.
+unfoldable pub written : List ℕ → ℕ → ℕ → ℕ → ℕ → List ℕ
+written a r l m p = put (put (put a r 0 l) r 1 m) r 2 p
+
+-- The arena b is a with record r, so written, before the list of the head h. The head's first forward stands beside the arena: it is `last` at a, and r at b.
+abbrev pub Placed : List ℕ → ℕ → ℕ → ℕ → ℕ → ℕ → ℕ → List ℕ → Type 0
+Placed a h r last l m p b = Hooked 1 l (put (written a r l m p) r 3 last) h r b
+
+-- The arena has the head and a record for each level, and there are as many sizes.
+pub record Loadable (a : List ℕ) (head first : ℕ) (sizes levels : List ℕ) : Type 0 where
+  pub head-has : Has a head
+  pub some : 1 ≤ first
+  pub has : stride * (first + length levels) ≤ length a
+  pub fits : first + length levels ≤ 4_294_967_296
+  pub apart : (i : ℕ) → i < length levels → first + i ≡ head → ⊥
+  pub low : (i : ℕ) → i < length levels → 1 ≤ getD levels i 0
+  pub high : (i : ℕ) → i < length levels → getD levels i 0 ≤ 8
+  pub bytes : Sized (length levels) sizes
+
+-- The arena b is a with the sizes as the list of the head, in the records from `first` on.
+pub record Loaded (a : List ℕ) (head first : ℕ) (sizes levels b : List ℕ) : Type 0 where
+  pub long : length b ≡ length a
+  pub outside : (x : ℕ) → (x ≡ head → ⊥) → Away x (numbers first (length levels)) → Same a b x
+  pub built : Built b head (numbers first (length levels))
+  pub level-is : map (level b) (numbers first (length levels)) ≡ levels
+  pub m-is : map (mWord b) (numbers first (length levels)) ≡ map (λ (z : Item). z .m) (sizesIn (length levels) sizes)
+  pub true-p : trues b (λ k. 0) (numbers first (length levels)) ≡ map (λ (z : Item). z .p) (sizesIn (length levels) sizes)

@@ -1,0 +1,2 @@
+pub mod WordLines
+pub mod Telling

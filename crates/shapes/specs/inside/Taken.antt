@@ -1,0 +1,24 @@
+-- What the list call does once it is taken. No public contract cites it.
+use mathlib.Core.Path.{_≡_}
+use mathlib.Core.List.{List}
+use Prim.Native.Nat.{ℕ, _+_, _*_, _-_, _≤_}
+use lib.ListN.{length}
+use Rattle.checks.specs.Answer.{taken}
+use Rattle.slicing.specs.Tree.{Tree, gaugeCount, sizeCount}
+use Rattle.slicing.specs.Shapes.{shapes}
+use Rattle.facefile.specs.Format.{faceOf}
+use Rattle.parts.specs.inside.Building.{Buildable}
+use Rattle.lent.specs.Lent.{writtenOver}
+use Rattle.shapes.specs.Listing.{listWords, RootList}
+
+pub record Writable (file levels a out : List ℕ) : Type 0 where
+  pub ready : Buildable file levels a
+  pub room : 2 * (sizeCount (ready .tree) - gaugeCount (ready .tree) + 1) ≤ length out
+
+pub record WroteFace (levels out a' out' : List ℕ) (count : ℕ) (t : Tree) : Type 0 where
+  pub counted : count ≡ length (shapes 0 t)
+  pub output : out' ≡ writtenOver (listWords (shapes 0 t)) out
+  pub root : RootList levels a' t
+
+unfoldable pub Wrote : (file levels out a' out' : List ℕ) (count : ℕ) → Type 0
+Wrote file levels out a' out' count = (t : Tree) → faceOf file ≡ taken t → WroteFace levels out a' out' count t

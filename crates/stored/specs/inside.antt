@@ -1,0 +1,5 @@
+pub mod Packed
+pub mod Store
+pub mod Filling
+pub mod Adding
+pub mod Joining

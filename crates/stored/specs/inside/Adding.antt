@@ -1,0 +1,32 @@
+-- What adding a gauge or a join to the stored parts asks. No public contract cites it.
+use mathlib.Core.List.{List}
+use Prim.Native.Nat.{ℕ, _+_, _*_, _-_, _≤_, _<_}
+use lib.ListN.{length}
+use Rattle.checks.specs.Limits.{bufferWords}
+use Rattle.slicing.specs.Tree.{Tree, gaugeCount}
+use Rattle.slicing.specs.Good.{Good}
+use Rattle.facefile.specs.inside.Kinds.{kindOf, Cut}
+use Rattle.stored.specs.inside.Packed.{ownShapes}
+use Rattle.stored.specs.inside.Store.{Entry}
+use Rattle.stored.specs.inside.Filling.{Between}
+
+-- There is room for part e and for n items from the place `to` on.
+pub record Room (s : List ℕ) (e to n : ℕ) : Type 0 where
+  pub long : bufferWords ≤ length s
+  pub part : e < 127
+  pub from : 508 ≤ to
+  pub items : to + n ≤ bufferWords
+
+-- The part before part e is the newer part b of a join, and the older part a is the one before all entries of b.
+pub record JoinRoom (s : List ℕ) (e to kind : ℕ) (cut : Tree → Tree → Tree) (a b : Tree) : Type 0 where
+  pub is-cut : Cut kind cut
+  pub room : Room s e to (length (ownShapes a) + length (ownShapes b))
+  pub newer-before : 1 ≤ e
+  pub older-before : 2 * gaugeCount b ≤ e
+  pub older : Entry s (e - 2 * gaugeCount b) (kindOf a) (gaugeCount a) (ownShapes a)
+  pub newer : Entry s (e - 1) (kindOf b) (gaugeCount b) (ownShapes b)
+  pub older-between : Between s to (e - 2 * gaugeCount b) a
+  pub newer-between : Between s to (e - 1) b
+  pub older-good : Good a
+  pub newer-good : Good b
+  pub few : gaugeCount a + gaugeCount b ≤ 64

@@ -1,0 +1,28 @@
+-- The shape lists of every part of a face in a lent scratch: a table of the parts, and their lists after it. No public contract cites it.
+use mathlib.Core.Path.{_≡_}
+use mathlib.Core.List.{List}
+use Prim.Native.Nat.{ℕ, _+_, _*_, _-_, _≤_, _<_}
+use lib.ListN.{length, getD}
+use Rattle.slicing.specs.Item.{Item}
+use Rattle.slicing.specs.Tree.{Tree, gauge, beside, stacked, gaugeCount}
+use Rattle.stored.specs.inside.Packed.{ownShapes, HasList}
+
+-- Part e, counted from 0 as its last entry stands in the file, has four words of the table: where its list starts, its length, its kind and its gauges.
+pub record Entry (s : List ℕ) (e kind gauges : ℕ) (l : List Item) : Type 0 where
+  pub inside : e < 127
+  pub list : HasList s (getD s (4 * e) 0) l
+  pub count-is : getD s (4 * e + 1) 0 ≡ length l
+  pub kind-is : getD s (4 * e + 2) 0 ≡ kind
+  pub gauges-is : getD s (4 * e + 3) 0 ≡ gauges
+
+-- A part of g gauges has 2 g - 1 entries. The newer part of a join is the one before it, and the older is the one before all entries of the newer.
+abbrev pub Stored : List ℕ → ℕ → Tree → Type 0
+Stored s e (gauge z) = Entry s e 0x01 1 (ownShapes (gauge z))
+Stored s e (beside a b) =
+    Entry s e 0x02 (gaugeCount (beside a b)) (ownShapes (beside a b)) × (2 * gaugeCount (beside a b) ≤ e + 2)
+    × Stored s (e - 1) b
+    × Stored s (e - 2 * gaugeCount b) a
+Stored s e (stacked a b) =
+    Entry s e 0x03 (gaugeCount (stacked a b)) (ownShapes (stacked a b)) × (2 * gaugeCount (stacked a b) ≤ e + 2)
+    × Stored s (e - 1) b
+    × Stored s (e - 2 * gaugeCount b) a
