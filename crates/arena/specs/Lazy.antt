@@ -4,6 +4,7 @@ use mathlib.Core.List.{List, [], _∷_, _++_}
 use Prim.Native.Nat.{ℕ, zero, suc, _+_, _%_, _^_}
 use lib.Dec.{leb, ltb, eqb}
 use Rattle.checks.specs.Check.{LazyList}
+use Rattle.checks.specs.Limits.{mostSizes}
 use Rattle.checks.specs.Answer.{Answer, refused, taken, ask, next}
 use Rattle.slicing.specs.Recorded.{Recorded}
 use Rattle.arena.specs.Arena.{level, mWord, pWord, forward, adjust}
@@ -39,7 +40,7 @@ walk zero a zero = taken []
 walk zero a (suc r) = refused LazyList
 walk (suc most) a zero = taken []
 walk (suc most) a (suc r) =
-    ask (leb (suc r) 512) LazyList (next (walk most a (forward a (suc r) 0)) (λ rs. taken (suc r ∷ rs)))
+    ask (leb (suc r) mostSizes) LazyList (next (walk most a (forward a (suc r) 0)) (λ rs. taken (suc r ∷ rs)))
 
 -- "every forward up to a record's level is as said": the first n links of r, before the records rs.
 unfoldable pub linksRight : List ℕ → ℕ → List ℕ → ℕ → Bool
@@ -61,5 +62,5 @@ falling (x ∷ y ∷ l) = ltb (y .item .m) (x .item .m) && (ltb (x .item .p) (y 
 unfoldable pub lazyList : List ℕ → Answer (List Recorded)
 lazyList a =
     ask (eqb (level a 0) 8) LazyList
-    (next (walk 512 a (forward a 0 0))
+    (next (walk mostSizes a (forward a 0 0))
     (λ rs. ask (linksRight a 0 rs 8 && (linked a rs && falling (held a 0 [] rs))) LazyList (taken (held a 0 [] rs))))

@@ -2,6 +2,7 @@
 ghost use mathlib.Core.Path.{_≡_};
 ghost use Prim.Native.Nat.{_≤_};
 ghost use Rattle.checks.specs.Answer.{number};
+ghost use Rattle.checks.specs.Limits.{mostGauges};
 ghost use Rattle.slicing.specs.Layout.{outline};
 ghost use Rattle.facefile.specs.Format.{faceOf};
 ghost use Rattle.lent.specs.Lent.{lent};
@@ -28,7 +29,7 @@ struct Lengths {
 // Checks 14 to 18, of the levels, the opening and the lengths of the lent buffers: the number of the first that fails,
 // or 0.
 fn asked_number(n: usize, g: usize, levels: &[u8], height: u32, width: u32, lengths: Lengths) -> u32
-    requires { ⌜ g ≤ 64 ⌝ }
+    requires { ⌜ g ≤ mostGauges ⌝ }
     ensures { λ r. ⌜ r ≡ number (fitAsks n g (now (levels .entry)) (outline height width) (lengths .arena) (lengths .scratch) (lengths .output)) ⌝ }
 {
     let buffers = lent::buffers_number(lengths.arena, lengths.scratch);

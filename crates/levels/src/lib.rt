@@ -9,13 +9,14 @@ ghost use mathlib.Core.Path.{_≡_};
 ghost use Prim.Native.Nat.{_≤_, min};
 ghost use lib.ListN.{length};
 ghost use Rattle.checks.specs.Answer.{number};
+ghost use Rattle.checks.specs.Limits.{mostSizes};
 ghost use Rattle.facefile.specs.Format.{faceOf};
 ghost use Rattle.levels.specs.Levels.{uncutLevel, topLevel, levelsFrom, levelsCall, levelsFilled};
 ghost use Rattle.levels.specs.inside.Taken.{Fillable, OwnLevels};
 
 // The level of size r before it is cut to the top level, for a size of a face.
 fn uncut_level(r: usize) -> u8
-    requires { ⌜ (1 ≤ r) × (r ≤ 512) ⌝ }
+    requires { ⌜ (1 ≤ r) × (r ≤ mostSizes) ⌝ }
     ensures { λ level. ⌜ level ≡ uncutLevel r ⌝ }
 {
     UNCUT[r - 1]
@@ -23,16 +24,16 @@ fn uncut_level(r: usize) -> u8
 
 // The level of size r, cut to the top level.
 fn cut_level(r: usize, top: u8) -> u8
-    requires { ⌜ (1 ≤ r) × (r ≤ 512) ⌝ }
+    requires { ⌜ (1 ≤ r) × (r ≤ mostSizes) ⌝ }
     ensures { λ level. ⌜ level ≡ min (uncutLevel r) top ⌝ }
 {
     let uncut = uncut_level(r);
     if uncut < top { uncut } else { top }
 }
 
-// The top level of a face of n sizes, at most 512.
+// The top level of a face of n sizes.
 fn top_level(n: usize, d: Depths) -> u8
-    requires { ⌜ (n ≤ 512) × (d .least ≤ 63) ⌝ }
+    requires { ⌜ (n ≤ mostSizes) × (d .least ≤ 63) ⌝ }
     ensures { λ r. ⌜ r ≡ topLevel n (d .least) (d .most) ⌝ }
 {
     if d.most <= 2 * d.least {
@@ -49,7 +50,7 @@ fn top_level(n: usize, d: Depths) -> u8
 
 // Fills the buffer with the levels of sizes 1, 2 and so on, cut to the top level.
 fn fill_cut(levels: &mut [u8], top: u8)
-    requires { ⌜ length (now levels) ≤ 512 ⌝ }
+    requires { ⌜ length (now levels) ≤ mostSizes ⌝ }
     ensures { λ _. ⌜ now (levels .exit) ≡ levelsFrom top 1 (length (now (levels .entry))) ⌝ }
 {
     let mut i = 0;

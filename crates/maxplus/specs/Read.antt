@@ -5,6 +5,7 @@ use Prim.Native.Nat.{ℕ, _-_}
 use lib.ListN.{length, getD}
 use lib.Dec.{leb}
 use Rattle.checks.specs.Check.{Buffers, Place}
+use Rattle.checks.specs.Limits.{bufferWords}
 use Rattle.checks.specs.Answer.{Answer, taken, ask, next, number, outcome}
 use Rattle.slicing.specs.Item.{Item, size}
 use Rattle.slicing.specs.Recorded.{items}
@@ -14,7 +15,7 @@ use Rattle.maxplus.specs.declared.Reading.{Reading}
 -- "is the arena 16,384 words or more? 17. Does it hold a lazy list? 20. Is the place from 1 to its length? 21."
 unfoldable pub readItem : List ℕ → ℕ → Answer Item
 readItem a place =
-    ask (leb 16_384 (length a)) Buffers
+    ask (leb bufferWords (length a)) Buffers
     (next (lazyList a)
     (λ l. ask (leb 1 place && leb place (length l)) Place (taken (getD (items l) (place - 1) (size 0 0)))))
 

@@ -3,6 +3,7 @@ ghost use mathlib.Core.Path.{_≡_};
 ghost use mathlib.Core.Bool.{cond};
 ghost use Prim.Native.Nat.{_≤_};
 ghost use lib.ListN.{length};
+ghost use Rattle.checks.specs.Limits.{bufferWords};
 ghost use Rattle.arena.specs.Arena.{level, mWord};
 ghost use Rattle.arena.specs.inside.Turning.{Summable, TrueP};
 ghost use Rattle.maxplus.specs.Read.{readItem, reading};
@@ -18,6 +19,11 @@ use arena::words::LEVEL;
 use arena::words::M;
 use arena::words::get;
 use arena::words::wide;
+use checks::limits::SIZES;
+use checks::limits::WORDS;
+
+// The most records that a list has.
+const MOST: u32 = SIZES as u32;
 
 // m and true p of a record on the list.
 pub struct Item {
@@ -33,13 +39,13 @@ fn refused(number: u32) -> Reading
 
 // Whether record r may stand on a list after `count` others, by their number, its own and its level.
 fn may_stand(arena: &[u32], count: u32, r: usize) -> bool
-    requires { ⌜ 16_384 ≤ length (now arena) ⌝ }
+    requires { ⌜ bufferWords ≤ length (now arena) ⌝ }
     ensures { λ b. ⌜ Decides b (Stands (now (arena .entry)) count r) ⌝ }
 {
-    if 512 <= count {
+    if MOST <= count {
         return false;
     }
-    if 512 < r {
+    if SIZES < r {
         return false;
     }
     let level = wide(get(arena, r, LEVEL));
@@ -116,7 +122,7 @@ fn item_or_place(count: u32, place: u32, found: Item) -> Reading
 // The walk from the head: `next` is the record that it has come to, `due` those that the higher links must come to, and
 // `sums` the sums that lead there.
 fn read_from_head(arena: &[u32], place: u32) -> Reading
-    requires { ⌜ (16_384 ≤ length (now arena)) × (level (now arena) 0 ≡ 8) ⌝ }
+    requires { ⌜ (bufferWords ≤ length (now arena)) × (level (now arena) 0 ≡ 8) ⌝ }
     ensures { λ r. ⌜ r ≡ reading (readItem (now (arena .entry)) place) ⌝ }
 {
     let mut due = [0u32; 8];
@@ -154,7 +160,7 @@ fn read_from_head(arena: &[u32], place: u32) -> Reading
 pub fn read(arena: &[u32], place: u32) -> Reading
     ensures { λ r. ⌜ r ≡ reading (readItem (now (arena .entry)) place) ⌝ }
 {
-    if arena.len() < 16_384 {
+    if arena.len() < WORDS {
         return refused(checks::BUFFERS);
     }
     if get(arena, 0, LEVEL) != 8 {

@@ -3,6 +3,7 @@ ghost use mathlib.Core.Path.{_≡_};
 ghost use Prim.Native.Nat.{_*_, _≤_};
 ghost use lib.ListN.{length};
 ghost use Rattle.text.specs.Printing.{Printed, Counted};
+ghost use Rattle.checks.specs.Limits.{mostSizes, bufferWords};
 ghost use Rattle.slicing.specs.Tree.{Tree};
 ghost use Rattle.slicing.specs.Shapes.{shapes as shapesOf};
 ghost use Rattle.slicing.specs.Fit.{smallest};
@@ -13,23 +14,25 @@ ghost use Rattle.report.specs.inside.Telling.{Tallied, Levelled, Worked}
 use crate::TEXT;
 use crate::render::render;
 use crate::render::render_refused;
+use checks::limits::SIZES;
+use checks::limits::WORDS;
 use fit::Fitted;
 
 // The height and the width of the opening.
 const OPENING: u32 = 64_000;
 
 // The levels of at most 512 sizes. The `ensures` here and below give only the lengths, which lending needs.
-fn levels_room() -> [u8; 512]
-    ensures { λ r. ⌜ 512 ≡ length r ⌝ }
+fn levels_room() -> [u8; SIZES]
+    ensures { λ r. ⌜ mostSizes ≡ length r ⌝ }
 {
-    [0; 512]
+    [0; SIZES]
 }
 
 // An arena, and then a scratch.
-fn words_room() -> [u32; 16_384]
-    ensures { λ r. ⌜ 16384 ≡ length r ⌝ }
+fn words_room() -> [u32; WORDS]
+    ensures { λ r. ⌜ bufferWords ≡ length r ⌝ }
 {
-    [0; 16_384]
+    [0; WORDS]
 }
 
 // Two words for each of at most 449 items.
@@ -85,7 +88,7 @@ fn placed_text(
     text: &mut [u8],
 ) -> usize
     requires { ⌜ Levelled (now file) (now levels) gauges ⌝ }
-    requires { ⌜ (16384 ≤ length (now words)) × (textBytes ≤ length (now text)) ⌝ }
+    requires { ⌜ (bufferWords ≤ length (now words)) × (textBytes ≤ length (now text)) ⌝ }
     ensures { λ r. ⌜ Printed (facesPrinted (faceOf (now (file .entry)))) (now (text .entry)) (now (text .exit)) r ⌝ }
     ensures { λ r. ⌜ Counted textBytes (now (text .exit)) r ⌝ }
 {

@@ -2,6 +2,7 @@
 ghost use mathlib.Core.Path.{_≡_};
 ghost use Prim.Native.Nat.{_≤_};
 ghost use Rattle.checks.specs.Answer.{number};
+ghost use Rattle.checks.specs.Limits.{mostSizes};
 ghost use Rattle.facefile.specs.Format.{faceOf};
 ghost use Rattle.lent.specs.Lent.{lent};
 ghost use Rattle.shapes.specs.Listing.{listAsks, ListPromise};
@@ -20,7 +21,7 @@ fn asked_number(
     scratch: usize,
     output: usize,
 ) -> u32
-    requires { ⌜ (g ≤ n) × (n ≤ 512) ⌝ }
+    requires { ⌜ (g ≤ n) × (n ≤ mostSizes) ⌝ }
     ensures { λ r. ⌜ r ≡ number (listAsks n g (now (levels .entry)) arena scratch output) ⌝ }
 {
     let buffers = lent::buffers_number(arena, scratch);

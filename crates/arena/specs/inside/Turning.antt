@@ -5,6 +5,7 @@ use mathlib.Core.List.{List, map, reverse}
 use Prim.Native.Nat.{ℕ, _%_, _^_, _≤_}
 use lib.Dec.{ltb}
 use lib.ListN.{length, getD}
+use Rattle.checks.specs.Limits.{mostSizes}
 use Rattle.arena.specs.Arena.{level, mWord, pWord, adjust, mAt, pAt, forwardAt}
 use Rattle.arena.specs.Lazy.{sumFrom}
 use Rattle.arena.specs.inside.Chain.{Has, put, All, Away, Linked, pUnder, after, trues, Same}
@@ -63,7 +64,7 @@ pub record Turnable (a : List ℕ) (from to : ℕ) (rs : List ℕ) : Type 0 wher
   pub has : Has a to
   pub apart : to ≡ from → ⊥
   pub away : Away to rs
-  pub few : length rs ≤ 512
+  pub few : length rs ≤ mostSizes
 
 -- The arena b is a with the list rs of one head turned to the list of the other.
 pub record Turned (a : List ℕ) (from to : ℕ) (rs b : List ℕ) : Type 0 where

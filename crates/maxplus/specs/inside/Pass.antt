@@ -5,6 +5,7 @@ use mathlib.Core.List.{List}
 use Prim.Native.Nat.{ℕ, _≤_, _<_}
 use lib.Dec.{leb}
 use lib.ListN.{length, getD}
+use Rattle.checks.specs.Limits.{mostSizes}
 use Rattle.arena.specs.Arena.{level, forward}
 use Rattle.maxplus.specs.declared.Reading.{Reading}
 
@@ -23,8 +24,8 @@ Decides false P = P → ⊥
 
 -- Record r may stand on a list after `count` others: a list has at most 512 records, numbered 1 to 512, of levels 1 to 8.
 pub record Stands (a : List ℕ) (count r : ℕ) : Type 0 where
-  pub room : count < 512
-  pub few : r ≤ 512
+  pub room : count < mostSizes
+  pub few : r ≤ mostSizes
   pub some : 1 ≤ level a r
   pub most : level a r ≤ 8
 

@@ -3,6 +3,7 @@ use mathlib.Core.Path.{_≡_}
 use mathlib.Core.List.{List, [], List·Memᴰ}
 use Prim.Native.Nat.{ℕ, _+_, _^_, _≤_, _<_}
 use lib.ListN.{length}
+use Rattle.checks.specs.Limits.{mostSizes}
 use Rattle.slicing.specs.Good.{Ordered}
 use Rattle.slicing.specs.Recorded.{Recorded, mergeRecorded, items}
 use Rattle.arena.specs.Arena.{level}
@@ -24,8 +25,8 @@ pub record Mergeable (a : List ℕ) (ho hn hc : ℕ) (xs ys : List ℕ) : Type 0
   pub result-off-older : Away hc xs
   pub result-off-newer : Away hc ys
   pub lists-apart : All (λ x. Away x ys) xs
-  pub older-few : length xs ≤ 512
-  pub newer-few : length ys ≤ 512
+  pub older-few : length xs ≤ mostSizes
+  pub newer-few : length ys ≤ mostSizes
   pub older-order : Ordered (items (held a ho [] xs))
   pub newer-order : Ordered (items (held a hn [] ys))
   pub small : (x y : Recorded) → List·Memᴰ x (held a ho [] xs) → List·Memᴰ y (held a hn [] ys) → x .item .p + y .item .p < 2 ^ 32

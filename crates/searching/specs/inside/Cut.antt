@@ -5,6 +5,7 @@ use mathlib.Core.List.{List, [], _∷_}
 use Prim.Native.Nat.{ℕ, _≤_, _<_}
 use lib.Dec.{leb}
 use lib.ListN.{length, getD}
+use Rattle.checks.specs.Limits.{mostSizes}
 use Rattle.arena.specs.Arena.{level, mWord, adjust}
 use Rattle.arena.specs.Lazy.{nextWith, lastWith}
 use Rattle.arena.specs.inside.Chain.{Has, All, Linked}
@@ -28,7 +29,7 @@ Falling a (r ∷ rs) = All (λ x. mWord a x < mWord a r) rs × Falling a rs
 pub record Searchable (a : List ℕ) (h : ℕ) (rs : List ℕ) : Type 0 where
   pub linked : Linked a h rs
   pub falling : Falling a rs
-  pub few : length rs ≤ 512
+  pub few : length rs ≤ mostSizes
   pub floor : mWord a 0 ≡ 0
 
 -- The records in front have n links: each link below n is on one of them, and none from n on.

@@ -5,6 +5,7 @@ use mathlib.Core.List.{List, [], _∷_}
 use Prim.Native.Nat.{ℕ, suc, _≤_, _<_}
 use lib.Dec.{ltb}
 use lib.ListN.{length}
+use Rattle.checks.specs.Limits.{mostSizes}
 use Rattle.arena.specs.Arena.{level, pWord, forward, adjust}
 use Rattle.arena.specs.inside.Chain.{Has, wrap, All, Away, Same, Shape}
 
@@ -43,4 +44,4 @@ pub record Lifting (a b : List ℕ) (k v : ℕ) (rs : List ℕ) : Type 0 where
 pub record Chained (a : List ℕ) (k first stop : ℕ) (rs : List ℕ) : Type 0 where
   pub first-is : first ≡ nextOr a k stop rs
   pub stretch : Stretch a k stop rs
-  pub few : length rs ≤ 512
+  pub few : length rs ≤ mostSizes

@@ -3,6 +3,7 @@ use mathlib.Core.Path.{_≡_}
 use mathlib.Core.List.{List, _++_, map}
 use Prim.Native.Nat.{ℕ, _-_, _≤_}
 use lib.ListN.{length, getD}
+use Rattle.checks.specs.Limits.{mostSizes}
 use Rattle.arena.specs.Arena.{level, adjust}
 use Rattle.arena.specs.Lazy.{lastWith}
 use Rattle.arena.specs.inside.Chain.{wrap, All, Away, Linked, trues, Same, Shape}
@@ -21,7 +22,7 @@ pub record Ready (a : List ℕ) (head n : ℕ) (cut front back : List ℕ) : Typ
   pub long : 8 ≤ length cut
   pub cut-at : getD cut (n - 1) 0 ≡ lastWith a (n - 1) head front
   pub cut-in : getD cut (n - 1) 0 ≡ head → ⊥
-  pub few : length (front ++ back) ≤ 512
+  pub few : length (front ++ back) ≤ mostSizes
 
 -- Settled with the sums of the records `ends`.
 pub record Settled (a b : List ℕ) (head q : ℕ) (ends front : List ℕ) : Type 0 where
