@@ -5,6 +5,7 @@ pub mod Taken
 pub mod Refused
 pub mod SizesIn
 pub mod SizeBytes
+pub mod EntryBytes
 pub mod WalkSteps
 pub mod WalkStack
 pub mod SizeChecks

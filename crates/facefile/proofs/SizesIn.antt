@@ -10,9 +10,9 @@ use Rattle.checks.specs.Check.{Limits, Order}
 use Rattle.checks.specs.Answer.{taken}
 use Rattle.checks.proofs.Answers.{same-taken, ask-taken, next-taken}
 use Rattle.slicing.specs.Item.{Item, size}
-use Rattle.facefile.specs.Format.{field, sizeAt, limited, ordered, sizesAfter, sizesFrom}
+use Rattle.facefile.specs.Format.{sizeAt, limited, ordered, sizesAfter, sizesFrom}
 use Rattle.facefile.specs.inside.Sizes.{sizesIn, SizeIn}
-use Rattle.facefile.proofs.SizeChecks.{size-at}
+use Rattle.facefile.specs.declared.Size.{Size}
 
 after-in : (y : Item) (k : ℕ) (bytes : List ℕ) (z : List Item) → sizesAfter y k bytes ≡ taken z → z ≡ sizesIn k bytes
 unfolding sizesAfter sizesIn
@@ -54,11 +54,6 @@ in-at (suc n) (suc k) x h =
     let place : 4 * suc k ≡ 4 + 4 * k = omega arith in
     ap (λ (i : ℕ). sizeAt (drop i x)) place ∙ sym (ap sizeAt (drop-drop (4 * k) 4 x)) ∙ in-at n k (drop 4 x) (omega arith)
 
--- The two fields of size k.
-pub size-in : (x : List ℕ) (k h w : ℕ) → (h ≡ field x (4 * k)) × (h < 65_536) → (w ≡ field x (4 * k + 2)) × (w < 65_536) → SizeIn x k (record { height = h; width = w })
-size-in x k h w height width =
-    record {
-      same = λ n less. size-at x (4 * k) h w (height .0) (width .0) ∙ in-at n k x less;
-      height-fits = height .1;
-      width-fits = width .1;
-    }
+-- The size that is read at the place of size k.
+pub size-in : (x : List ℕ) (k : ℕ) (z : Size) → size (z .height) (z .width) ≡ sizeAt (drop (4 * k) x) → z .height < 65_536 → z .width < 65_536 → SizeIn x k z
+size-in x k z e h w = record { same = λ n less. e ∙ in-at n k x less; height-fits = h; width-fits = w }

@@ -1,12 +1,10 @@
--- The walk over the entries of a taken file: where it begins, what the bytes at a place of it say, and where it goes on.
+-- The walk over the entries of a taken file: where it begins, what it finds at a place and where it goes on, and where it ends.
 -- The reading took the entry at the place, so it is what the bytes there say, and what is left after it still gives the face.
-use mathlib.Core.Path.{_≡_, refl, sym, ap, ap₂, subst, _∙_}
+use mathlib.Core.Path.{_≡_, refl, ap, subst, _∙_}
 use mathlib.Core.List.{List, [], _∷_, cons≢nil}
 use Prim.Native.Nat.{ℕ, zero, suc, _+_, _-_, _*_, _≤_, _<_}
-use native.Mathlib.Nat.{add-zero}
 use native.Mathlib.Omega.{arith}
-use lib.ListN.{length, getD, take, drop, length-drop, drop-of-length-le}
-use lib.Seq.{drop-drop, getD-drop, getD-take, length-take-le}
+use lib.ListN.{length, getD, drop, drop-of-length-le}
 use Rattle.checks.specs.Answer.{Answer, taken, next}
 use Rattle.checks.proofs.Answers.{same-taken, next-taken}
 use Rattle.slicing.specs.Item.{Item}
@@ -15,12 +13,11 @@ use Rattle.facefile.specs.declared.walk.GaugeEntry.{GaugeEntry}
 use Rattle.facefile.specs.declared.walk.Entry.{Entry}
 use Rattle.facefile.specs.declared.walk.Entry.the-variants.{Gauge, Join}
 use Rattle.facefile.specs.Format.{State, start, entry, entries, atEnd, faceOf, header}
-use Rattle.facefile.specs.inside.Kinds.{Cut, cut-beside, cut-stacked}
 use Rattle.facefile.specs.inside.Sizes.{sizesIn}
 use Rattle.facefile.specs.inside.Walk.{firstEntry, stateAt, Walk, sizeBytesOf, GaugeAt, JoinAt, EntryAt, Finds}
 use Rattle.facefile.proofs.Took.{state, Took, took-gauge, took-join, entry-took, Reads, reads-none, reads-more}
-use Rattle.facefile.proofs.SizesIn.{from-in, in-same}
 use Rattle.facefile.proofs.Taken.{header-taken, end-taken, end-read}
+use Rattle.facefile.proofs.EntryBytes.{left-at, gaugeEntryAt, gauge-read, join-read, bytes-long, bytes-sizes}
 
 pub walk-start : (file : List ℕ) (t : Tree) → faceOf file ≡ taken t → Walk file t firstEntry []
 unfolding faceOf entries
@@ -35,87 +32,6 @@ walk-start file t e =
       left = head .0;
       gives = head .2;
     }
-
--- What stands at a place of a list and after it, from what is left there.
-module _ (file : List ℕ) (at : ℕ) where
-  at-place : (x : ℕ) (l : List ℕ) → drop at file ≡ x ∷ l → getD file at 0 ≡ x
-  at-place x l e = ap (λ (n : ℕ). getD file n 0) (sym (add-zero at)) ∙ sym (getD-drop at file 0 0) ∙ ap (λ (r : List ℕ). getD r 0 0) e
-
-  past-place : (k : ℕ) (l : List ℕ) → drop at file ≡ l → drop (at + k) file ≡ drop k l
-  past-place k l e = sym (drop-drop k at file) ∙ ap (drop k) e
-
-  left-at : (l : List ℕ) → drop at file ≡ l → length file - at ≡ length l
-  left-at l e = sym (length-drop at file) ∙ ap length e
-
--- The gauge entry at a place with so many sizes, as its bytes say.
-abbrev pub gaugeEntryAt : ℕ → ℕ → GaugeEntry
-gaugeEntryAt at n = record { from = at + 2; to = at + 2 + 4 * n; count = n; next = at + 2 + 4 * n }
-
--- A gauge was taken at the place.
-record TookGauge (file : List ℕ) (at n : ℕ) (s u : State) : Type 0 where
-  few : n ≤ 8
-  fits : at + 2 + 4 * n ≤ length file
-  after : u ≡ stateAt file (at + 2 + 4 * n) (gauge (sizesIn n (drop (at + 2) file)) ∷ s .stack) (s .gauges + 1)
-
--- A join was taken at the place.
-record TookJoin (file : List ℕ) (at : ℕ) (s u : State) : Type 0 where
-  cut : Tree → Tree → Tree
-  older : Tree
-  newer : Tree
-  rest : List Tree
-  is-cut : Cut (getD file at 0) cut
-  two : s .stack ≡ newer ∷ older ∷ rest
-  after : u ≡ stateAt file (at + 1) (cut older newer ∷ rest) (s .gauges)
-
-not-gauge : (kind : ℕ) (cut : Tree → Tree → Tree) → Cut kind cut → kind ≡ 0x01 → ⊥
-not-gauge kind cut cut-beside e = omega arith
-not-gauge kind cut cut-stacked e = omega arith
-
-module _ (file : List ℕ) (at : ℕ) where
-  gauge-read : (n : ℕ) (s u : State) → Took s u → drop at file ≡ s .rest → at < length file → getD file at 0 ≡ 0x01 → n ≡ getD file (at + 1) 0 → TookGauge file at n s u
-  gauge-read n s u (took-gauge count bytes parts g z few some most present sized) here more e counted =
-      let long = left-at file at (0x01 ∷ count ∷ bytes) here in
-      let past : drop (at + 2) file ≡ bytes = past-place file at 2 (0x01 ∷ count ∷ bytes) here in
-      let same : n ≡ count = counted ∙ at-place file (at + 1) count bytes (past-place file at 1 (0x01 ∷ count ∷ bytes) here) in
-      record {
-        few = omega arith;
-        fits = omega arith;
-        after =
-            ap₂ (λ (r : List ℕ) (l : List Item). state r (gauge l ∷ parts) (g + 1))
-            (sym (ap (λ (k : ℕ). drop (at + 2 + 4 * k) file) same ∙ past-place file (at + 2) (4 * count) bytes past))
-            (from-in count bytes z sized ∙ sym (ap₂ sizesIn same past));
-      }
-  gauge-read n s u (took-join kind cut bytes a b parts g c) here more e counted =
-      absurd (not-gauge kind cut c (sym (at-place file at kind bytes here) ∙ e))
-
-  join-read : (s u : State) → Took s u → drop at file ≡ s .rest → (getD file at 0 ≡ 0x01 → ⊥) → TookJoin file at s u
-  join-read s u (took-gauge count bytes parts g z few some most present sized) here e =
-      absurd (e (at-place file at 0x01 (count ∷ bytes) here))
-  join-read s u (took-join kind cut bytes a b parts g c) here e =
-      record {
-        cut = cut;
-        older = a;
-        newer = b;
-        rest = parts;
-        is-cut = rw (at-place file at kind bytes here) c;
-        two = refl;
-        after = ap (λ (r : List ℕ). state r (cut a b ∷ parts) g) (sym (past-place file at 1 (kind ∷ bytes) here));
-      }
-
--- The sizes of a gauge are those of their own bytes.
-module _ (file : List ℕ) (from n : ℕ) (fits : from + 4 * n ≤ length file) where
-  abbrev bytes : List ℕ
-  bytes = take (from + 4 * n - from) (drop from file)
-
-  bytes-long : length bytes ≡ 4 * n
-  bytes-long =
-      let left = length-drop from file in
-      length-take-le (from + 4 * n - from) (drop from file) (omega arith) ∙ omega arith
-
-  bytes-sizes : sizesIn n (drop from file) ≡ sizesIn n bytes
-  bytes-sizes =
-      in-same n (drop from file) bytes
-      (λ i less. sym (getD-take (from + 4 * n - from) (drop from file) i 0 (omega arith)))
 
 -- One entry more after a run of entries.
 entries-more : (k : ℕ) (s t u : State) → entries k s ≡ taken t → entry t ≡ taken u → entries (suc k) s ≡ taken u

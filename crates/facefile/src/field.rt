@@ -26,6 +26,7 @@ pub fn field(file: &[u8], at: usize) -> u32
 pub fn size_at(file: &[u8], at: usize) -> Size
     requires { ⌜ at + 4 ≤ length (now file) ⌝ }
     ensures { λ r. ⌜ size (r .height) (r .width) ≡ sizeAt (drop at (now (file .entry))) ⌝ }
+    ensures { λ r. ⌜ (r .height < 65536) × (r .width < 65536) ⌝ }
 {
     Size {
         height: field(file, at),
@@ -38,11 +39,7 @@ pub fn size_in(sizes: &[u8], k: usize) -> Size
     requires { ⌜ ((n : ℕ) × Sized n (now sizes) × (k < n)) ⌝ }
     ensures { λ r. ⌜ SizeIn (now (sizes .entry)) k r ⌝ }
 {
-    let at = 4 * k;
-    Size {
-        height: field(sizes, at),
-        width: field(sizes, at + 2),
-    }
+    size_at(sizes, 4 * k)
 }
 
 // Whether x is from low to high.

@@ -6,7 +6,7 @@ use mathlib.Core.List.{List, [], _∷_}
 use Prim.Native.Nat.{ℕ, suc, _+_, _-_, _≤_, _<_}
 use native.Mathlib.Numerals.{add-one}
 use native.Mathlib.Omega.{arith}
-use lib.ListN.{length, getD, set, take, drop, length-set, length-append, length-drop}
+use lib.ListN.{length, getD, set, take, drop, length-append, length-drop}
 use lib.Seq.{getD-take, getD-drop, length-take-le}
 use Rattle.checks.specs.Answer.{taken}
 use Rattle.slicing.specs.Item.{Item}
@@ -22,12 +22,12 @@ use Rattle.facefile.specs.Format.{faceOf}
 use Rattle.facefile.specs.inside.Kinds.{kindOf, Cut, across}
 use Rattle.facefile.specs.inside.Sizes.{sizesIn}
 use Rattle.facefile.specs.inside.Tracking.{flat}
-use Rattle.facefile.specs.inside.Walk.{firstEntry, Walk, sizeBytesOf, GaugeAt, JoinAt, Finds}
+use Rattle.facefile.specs.inside.Walk.{firstEntry, sizeBytesOf, GaugeAt, JoinAt, Finds}
 use Rattle.facefile.proofs.SizesIn.{in-length}
 use Rattle.facefile.proofs.Taken.{face-taken}
-use Rattle.facefile.proofs.PartArray.{Held, push-held}
-use Rattle.facefile.proofs.WalkSteps.{walk-start, walk-end, found-gauge, found-join}
-use Rattle.facefile.proofs.WalkStack.{walk-parts, walk-sizes, walk-face, join-good, join-gauges}
+use Rattle.facefile.proofs.PartArray.{Column, column-start, column-push, column-older, column-newer, column-join}
+use Rattle.facefile.proofs.WalkSteps.{walk-end, found-gauge, found-join}
+use Rattle.facefile.proofs.WalkStack.{walk-sizes, walk-face, join-good, join-gauges, Counted, counted-start, counted-room, counted-gauge, counted-two, counted-below, counted-join}
 use Rattle.arena.specs.inside.Chain.{Away}
 use Rattle.parts.specs.inside.Loading.{numbers, Loadable, Loaded}
 use Rattle.parts.specs.inside.Part.{headOf, Part, Suits, Parts}
@@ -42,13 +42,10 @@ use Rattle.parts.proofs.FacingLists.{faces-suit, cut-part, cut-sizes, c
 pub record Standing (file levels a₀ a kinds : List ℕ) (at parts done : ℕ) : Type 0 where
   pub ready : Buildable file levels a₀
   pub stack : List Tree
-  pub walk : Walk file (ready .tree) at stack
-  pub count : length stack ≡ parts
-  pub few : parts ≤ 64
+  pub walked : Counted file (ready .tree) at stack parts
   pub records : done ≤ 512
   pub length-kept : length a ≡ length a₀
-  pub kinds-long : length kinds ≡ 64
-  pub kinds-held : Held kindOf kinds stack
+  pub kinds-held : Column kindOf kinds stack
   pub stands : Parts levels a stack (done + 1)
 
 pub standing-start : (file levels a kinds : List ℕ) → Buildable file levels a → length kinds ≡ 64 → Standing file levels a a kinds firstEntry 0 0
@@ -56,13 +53,10 @@ standing-start file levels a kinds ready long =
     record {
       ready = ready;
       stack = [];
-      walk = walk-start file (ready .tree) (ready .face);
-      count = refl;
-      few = omega arith;
+      walked = counted-start file (ready .tree) (ready .face);
       records = omega arith;
       length-kept = refl;
-      kinds-long = long;
-      kinds-held = tt;
+      kinds-held = column-start kindOf kinds long;
       stands = refl;
     }
 
@@ -79,7 +73,7 @@ module _ (file levels a₀ a kinds : List ℕ) (at parts done : ℕ) (k : Standi
   module _ (r : Entry) (found : Finds file at r) where
     module _ (g : GaugeEntry) (e : r ≡ Gauge g) where
       abbrev here : GaugeAt file face at (k .stack) g
-      here = found-gauge file face at (k .stack) (k .walk) r found g e
+      here = found-gauge file face at (k .stack) (k .walked .walk) r found g e
 
       abbrev bytes : List ℕ
       bytes = sizeBytesOf file g
@@ -91,7 +85,7 @@ module _ (file levels a₀ a kinds : List ℕ) (at parts done : ℕ) (k : Standi
       stack = gauge sizes ∷ k .stack
 
       pub gauge-room : parts < 64
-      gauge-room = let few = walk-parts file face (g .next) stack (here .walk) in let c = k .count in omega arith
+      gauge-room = counted-room file face at (k .stack) parts (k .walked) g here
 
       -- The gauge's sizes have levels, and records.
       pub levels-left : done + g .count ≤ length levels
@@ -151,7 +145,7 @@ module _ (file levels a₀ a kinds : List ℕ) (at parts done : ℕ) (k : Standi
         below =
             let room = gauge-room in
             let records = records-left in
-            let c = k .count in
+            let c = k .walked .count in
             parts-frame levels a b (k .stack) (done + 1) (d .long) (omega arith)
             (λ x u w. d .outside x (λ e. omega arith) (away x (λ i. let v = i .0 in omega arith)))
             (λ i less. d .outside (headOf i) (λ e. omega arith) (away (headOf i) (λ i. let v = i .1 in omega arith)))
@@ -159,32 +153,26 @@ module _ (file levels a₀ a kinds : List ℕ) (at parts done : ℕ) (k : Standi
 
         on-top : Part levels b (headOf (length (k .stack))) (done + 1) (done + g .count + 1) (partRecorded 0 (done + 1) (gauge sizes))
         on-top =
-            let head : 513 + parts ≡ headOf (length (k .stack)) = ap (λ (i : ℕ). 513 + i) (sym (k .count)) in
+            let head : 513 + parts ≡ headOf (length (k .stack)) = ap (λ (i : ℕ). 513 + i) (sym (k .walked .count)) in
             let end : done + 1 + g .count ≡ done + g .count + 1 = omega arith in
             rw (← head, ← end) (loaded-part levels a b (513 + parts) done (g .count) bytes own sizes refl own-at own-long d)
 
         pub standing-gauge : (l : List ℕ) → l ≡ set kinds parts 0x01 → Standing file levels a₀ b l (g .next) (parts + 1) (done + g .count)
         standing-gauge l stored =
-            let room = gauge-room in
-            let c = k .count in
             let many = in-length (g .count) bytes in
-            let kinds-room = k .kinds-long in
             record {
               ready = k .ready;
               stack = stack;
-              walk = here .walk;
-              count = omega arith;
-              few = omega arith;
+              walked = counted-gauge file face at (k .stack) parts (k .walked) g here;
               records = let left = records-left in omega arith;
               length-kept = d .long ∙ k .length-kept;
-              kinds-long = ap length stored ∙ length-set kinds parts 0x01 ∙ kinds-room;
-              kinds-held = push-held kindOf kinds l parts 0x01 (gauge sizes) (k .stack) c stored (omega arith) refl (k .kinds-held);
+              kinds-held = column-push kindOf kinds (k .stack) parts (k .walked .count) (k .kinds-held) l 0x01 (gauge sizes) gauge-room stored refl;
               stands = (done + 1, omega arith, on-top, below);
             }
 
     module _ (kind behind : ℕ) (e : r ≡ Join kind behind) where
       abbrev joining : JoinAt file face at (k .stack) kind behind
-      joining = found-join file face at (k .stack) (k .walk) r found kind behind e
+      joining = found-join file face at (k .stack) (k .walked .walk) r found kind behind e
 
       abbrev older : Tree
       older = joining .older
@@ -195,26 +183,20 @@ module _ (file levels a₀ a kinds : List ℕ) (at parts done : ℕ) (k : Standi
       abbrev rest : List Tree
       rest = joining .rest
 
-      two : parts ≡ suc (suc (length rest))
-      two = sym (k .count) ∙ ap length (joining .two)
-
       pub join-parts : 2 ≤ parts
-      join-parts = let t = two in omega arith
+      join-parts = counted-two file face at (k .stack) parts (k .walked) kind behind joining
 
       pub join-some : 1 ≤ parts
-      join-some = let t = two in omega arith
+      join-some = let two = join-parts in omega arith
 
       below-two : parts - 2 ≡ length rest
-      below-two = let t = two in omega arith
-
-      held : Held kindOf kinds (newer ∷ older ∷ rest)
-      held = subst (λ (s : List Tree). Held kindOf kinds s) (joining .two) (k .kinds-held)
+      below-two = counted-below file face at (k .stack) parts (k .walked) kind behind joining
 
       older-kind : getD kinds (parts - 2) 0 ≡ kindOf older
-      older-kind = ap (λ (i : ℕ). getD kinds i 0) below-two ∙ held .1 .0
+      older-kind = column-older kindOf kinds (k .stack) parts (k .walked .count) (k .kinds-held) older newer rest (joining .two)
 
       newer-kind : getD kinds (parts - 2 + 1) 0 ≡ kindOf newer
-      newer-kind = ap (λ (i : ℕ). getD kinds i 0) (add-one (parts - 2) ∙ ap suc below-two) ∙ held .0
+      newer-kind = column-newer kindOf kinds (k .stack) parts (k .walked .count) (k .kinds-held) older newer rest (joining .two)
 
       stand : Parts levels a (newer ∷ older ∷ rest) (done + 1)
       stand = subst (λ (s : List Tree). Parts levels a s (done + 1)) (joining .two) (k .stands)
@@ -226,10 +208,10 @@ module _ (file levels a₀ a kinds : List ℕ) (at parts done : ℕ) (k : Standi
       lo = stand .3 .0
 
       good : Good newer × Good older
-      good = join-good file face at (k .stack) (k .walk) kind behind joining
+      good = join-good file face at (k .stack) (k .walked .walk) kind behind joining
 
       gauges-few : gaugeCount older + gaugeCount newer ≤ 64
-      gauges-few = join-gauges file face at (k .stack) (k .walk) kind behind joining
+      gauges-few = join-gauges file face at (k .stack) (k .walked .walk) kind behind joining
 
       module _ (s t : Bool) (s-is : s ≡ across (getD kinds (parts - 2) 0) kind) (t-is : t ≡ across (getD kinds (parts - 2 + 1) 0) kind) where
         abbrev cut : Cut kind (joining .cut)
@@ -245,7 +227,7 @@ module _ (file levels a₀ a kinds : List ℕ) (at parts done : ℕ) (k : Standi
         joinable =
             let long = standing-long in
             let some = parts-some levels a rest lo (stand .3 .3) in
-            let few = k .few in
+            let few = k .walked .few in
             let enough = join-parts in
             let records = k .records in
             let gauges = gauges-few in
@@ -288,7 +270,7 @@ module _ (file levels a₀ a kinds : List ℕ) (at parts done : ℕ) (k : Standi
 
           join-below : Parts levels b rest lo
           join-below =
-              let few = k .few in
+              let few = k .walked .few in
               let enough = join-parts in
               let records = k .records in
               let first = stand .3 .1 in
@@ -306,45 +288,38 @@ module _ (file levels a₀ a kinds : List ℕ) (at parts done : ℕ) (k : Standi
 
           pub standing-join : (l : List ℕ) → l ≡ set kinds (parts - 2) kind → Standing file levels a₀ b l behind (parts - 1) done
           standing-join l stored =
-              let few = k .few in
-              let enough = join-parts in
               let first = stand .3 .1 in
               let second = stand .1 in
               let whole = cut-sizes kind (joining .cut) cut older newer in
-              let kinds-room = k .kinds-long in
-              let n = below-two in
               record {
                 ready = k .ready;
                 stack = joining .cut older newer ∷ rest;
-                walk = joining .walk;
-                count = omega arith;
-                few = omega arith;
+                walked = counted-join file face at (k .stack) parts (k .walked) kind behind joining;
                 records = k .records;
                 length-kept = done-join .length-kept ∙ k .length-kept;
-                kinds-long = ap length stored ∙ length-set kinds (parts - 2) kind ∙ kinds-room;
                 kinds-held =
-                    push-held kindOf kinds l (parts - 2) kind (joining .cut older newer) rest (sym n) stored (omega arith)
-                    (cut-kind kind (joining .cut) cut older newer) (held .1 .1);
+                    column-join kindOf kinds (k .stack) parts (k .walked .count) (k .kinds-held) older newer rest (joining .two) l kind (joining .cut older newer)
+                    (k .walked .few) stored (cut-kind kind (joining .cut) cut older newer);
                 stands = (lo, omega arith, join-on-top, join-below);
               }
 
   module _ (over : length file ≤ at) where
     last-stack : k .stack ≡ face ∷ []
-    last-stack = walk-end file face at (k .stack) (k .walk) over
+    last-stack = walk-end file face at (k .stack) (k .walked .walk) over
 
     root : Parts levels a (face ∷ []) (done + 1)
     root = subst (λ (s : List Tree). Parts levels a s (done + 1)) last-stack (k .stands)
 
     pub standing-whole : (b : List ℕ) (kind : ℕ) → Copied a 513 0 b → kind ≡ getD kinds 0 0 → (t : Tree) → faceOf file ≡ taken t → Whole file levels a₀ b kind t
     standing-whole b kind c kind-is t e =
-        let same = walk-face file face at (k .stack) (k .walk) t e in
+        let same = walk-face file face at (k .stack) (k .walked .walk) t e in
         let from : root .0 ≡ 1 = root .3 in
         let to : done + 1 ≡ 1 + sizeCount face = root .1 ∙ ap (λ (x : ℕ). x + sizeCount face) from in
         let here : Part levels a 513 1 (1 + sizeCount face) (partRecorded 0 1 face) = subst (λ (x : ℕ). Part levels a 513 1 x (partRecorded 0 1 face)) to (subst (λ (x : ℕ). Part levels a 513 x (done + 1) (partRecorded 0 x face)) from (root .2)) in
-        let holds = subst (λ (s : List Tree). Held kindOf kinds s) last-stack (k .kinds-held) in
+        let holds = subst (λ (s : List Tree). Column kindOf kinds s) last-stack (k .kinds-held) in
         subst (λ (x : Tree). Whole file levels a₀ b kind x) same
         (record {
           length-kept = c .length-kept ∙ k .length-kept;
-          kind-is = kind-is ∙ holds .0;
+          kind-is = kind-is ∙ holds .held .0;
           part = part-copied levels a b 513 0 1 (1 + sizeCount face) (partRecorded 0 1 face) here (let long = standing-long in omega arith) (λ i. let w = i .0 in omega arith) c;
         })

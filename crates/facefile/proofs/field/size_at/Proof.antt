@@ -15,8 +15,10 @@ field-requires-2 : tie.Need-field-requires-2
 field-requires-2 c κs = search needs
 
 returns : tie.Need-returns
-returns c =
-    size-at (c .before .before .before .args .file .now) (c .before .before .before .args .at) _ _ (c .before .field .ensures .0) (c .field2 .ensures .0)
+returns c = (
+  size-at (c .before .before .before .args .file .now) (c .before .before .before .args .at) _ _ (c .before .field .ensures .0) (c .field2 .ensures .0),
+  (c .before .field .ensures .1, c .field2 .ensures .1),
+)
 
 pub size-at-spec : {M : Type 1} → statement M
 size-at-spec = tie.close (tie.spec field-requires add-field field-requires-2 returns)

@@ -61,7 +61,7 @@ loop-again c =
     let at-size-at2 = at-is-limited2 .before in
     let at-loop-test = at-size-at2 .before in
     let at-loop = at-loop-test .before in
-    later-checked _ _ _ _ _ _ _ _ _ (at-loop .loop .inv) (at-loop-test .loop-test .taken) (at-size-at2 .size-at2 .ensures)
+    later-checked _ _ _ _ _ _ _ _ _ (at-loop .loop .inv) (at-loop-test .loop-test .taken) (at-size-at2 .size-at2 .ensures .0)
     (at-is-limited2 .is-limited2 .ensures) (c .before .before .is-ordered .ensures) (c .before .size-number2 .ensures) (c .if2 .left)
 
 returns-3 : tie.Need-returns-3 Inv-loop μ-loop

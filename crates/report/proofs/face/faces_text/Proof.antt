@@ -3,8 +3,7 @@
 use mathlib.Core.Path.{refl}
 use native.Mathlib.Omega.{arith}
 use borrow.Author.Needs.{needs}
-use Rattle.levels.proofs.Call.{sizes-few}
-use Rattle.report.proofs.Telling.{text-short, text-long, text-refused, tallied-part, part-counted}
+use Rattle.report.proofs.Telling.{text-short, text-long, text-refused, sizes-few, tallied-part, part-counted}
 use Rattle.report.proofs.face.faces_text.Statement.{statement}
 use Rattle.report.proofs.face.faces_text.Tie as tie
 
