@@ -161,9 +161,6 @@ module _ (file levels : List ℕ) (h w : ℕ) (arena scratch output : List ℕ) 
       abbrev face : Counts f (faceOf file)
       face = counts (faceOf file) asks f read zero
 
-      pub fit-gauges : f .gauges ≤ 64
-      fit-gauges = let few = face-taken file (face .tree) (face .face) .few in let g = face .gauges in omega arith
-
       module _ (n : ℕ) (is : n ≡ number (asked (f .sizes) (f .gauges))) where
         of-tree : n ≡ number (asks (face .tree))
         of-tree = is ∙ ap number (asked-of-counts (faceOf file) asks f read zero asked)

@@ -1,14 +1,19 @@
 -- The law of a call on a face, whatever the answer of the file and whatever it asks: it is refused by the file, refused by what it asks beside it, or taken.
 -- The reader's answer sums up that of the file, and the number of what is asked is the definition's.
 use mathlib.Core.Path.{_≡_, sym, ap, _∙_}
-use Prim.Native.Nat.{ℕ}
+use mathlib.Core.List.{List}
+use Prim.Native.Nat.{ℕ, _≤_}
+use native.Mathlib.Omega.{arith}
 use Rattle.checks.specs.Check.{Check, numberOf}
+use Rattle.checks.specs.Limits.{mostGauges, mostSizes}
 use Rattle.checks.specs.Answer.{Answer, refused, taken, next, Asked, also, number}
 use Rattle.checks.proofs.Answers.{same-taken, next-taken, also-taken, number-taken, number-refused, RefusedBy, next-refused, also-refused}
 use Rattle.slicing.specs.Tree.{Tree, gaugeCount, sizeCount}
 use Rattle.facefile.specs.declared.Face.{Face}
+use Rattle.facefile.specs.Format.{faceOf}
 use Rattle.facefile.specs.Summary.{summary}
 use Rattle.facefile.proofs.Answered.{Counts, answer-taken, answer-refused}
+use Rattle.facefile.proofs.Taken.{face-taken}
 use Rattle.lent.specs.Call.{callOn}
 
 module _ (face : Answer Tree) (asks : Tree → Asked) where
@@ -56,3 +61,21 @@ module _ (face : Answer Tree) (asks : Tree → Asked) where
 
         pub taken-by-all : n ≡ 0 → callOn face asks ≡ taken (counts .tree)
         taken-by-all passed = answer-is ∙ ap (λ (q : Asked). also q (taken (counts .tree))) (asked-taken passed)
+
+-- What the reader counts in a taken file is few.
+pub record Few (f : Face) : Type 0 where
+  pub gauges : f .gauges ≤ mostGauges
+  pub sizes : f .sizes ≤ mostSizes
+  pub one-each : f .gauges ≤ f .sizes
+
+pub read-few : (file : List ℕ) (f : Face) → f ≡ summary (faceOf file) → f .number ≡ 0 → Few f
+read-few file f read zero =
+    let face = answer-taken f (faceOf file) read zero in
+    let known = face-taken file (face .tree) (face .face) in
+    let g = face .gauges in
+    let n = face .sizes in
+    record {
+      gauges = omega (arith, known .few);
+      sizes = omega (arith, known .most);
+      one-each = omega (arith, known .least);
+    }

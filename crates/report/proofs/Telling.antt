@@ -126,13 +126,6 @@ module _ (file : List ℕ) (f : Face) (read : f ≡ summary (faceOf file)) where
       let bad = answer-refused f (faceOf file) read other in
       other-text (refusedText (f .number)) (facesPrinted (faceOf file)) old new r (ap refusedText (bad .2) ∙ sym (ap facesPrinted (bad .1))) p
 
-  pub sizes-few : f .number ≡ 0 → f .sizes ≤ 512
-  sizes-few zero =
-      let face = answer-taken f (faceOf file) read zero in
-      let most = face-taken file (face .tree) (face .face) .most in
-      let same = face .sizes in
-      omega arith
-
   -- The levels buffer is lent as many bytes.
   pub tallied-part : f .number ≡ 0 → (n : ℕ) → f .sizes ≡ n → Tallied file (f .gauges) n
   tallied-part zero n e =

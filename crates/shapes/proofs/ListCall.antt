@@ -3,7 +3,6 @@
 use mathlib.Core.Path.{_≡_, refl, sym, ap, subst, _∙_}
 use mathlib.Core.List.{List}
 use Prim.Native.Nat.{ℕ, _+_, _*_, _-_, _≤_}
-use native.Mathlib.Omega.{arith}
 use lib.ListN.{length}
 use Rattle.checks.specs.Check.{Check, numberOf}
 use Rattle.checks.specs.Answer.{Answer, refused, taken, Asked, also, number}
@@ -13,7 +12,6 @@ use Rattle.facefile.specs.declared.Face.{Face}
 use Rattle.facefile.specs.Format.{faceOf}
 use Rattle.facefile.specs.Summary.{summary}
 use Rattle.facefile.proofs.Answered.{Counts}
-use Rattle.facefile.proofs.Taken.{face-taken}
 use Rattle.lent.specs.Lent.{Lent, lent}
 use Rattle.lent.specs.Questions.{levelsLent, buffersLent, outputLent}
 use Rattle.lent.proofs.Asking.{Levelled, levels-taken, buffers-taken, output-taken}
@@ -73,15 +71,6 @@ module _ (file levels arena scratch output : List ℕ) where
     module _ (zero : f .number ≡ 0) where
       abbrev face : Counts f (faceOf file)
       face = counts (faceOf file) asks f read zero
-
-      pub list-counts : (f .gauges ≤ f .sizes) × (f .sizes ≤ 512)
-      list-counts =
-          let t = face-taken file (face .tree) (face .face) in
-          let least = t .least in
-          let most = t .most in
-          let g = face .gauges in
-          let s = face .sizes in
-          (omega arith, omega arith)
 
       module _ (n : ℕ) (is : n ≡ number (asked (f .sizes) (f .gauges))) where
         of-tree : n ≡ number (asks (face .tree))

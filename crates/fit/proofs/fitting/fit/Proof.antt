@@ -2,7 +2,8 @@
 -- Each way out is one of the definition: a check of the file, a check of what was lent, or the face placed.
 use native.Mathlib.Omega.{arith}
 use borrow.Author.Needs.{needs}
-use Rattle.fit.proofs.FitCall.{fit-file, fit-gauges, fit-asked, fit-builds, fit-places, fit-done}
+use Rattle.lent.proofs.Calling.{read-few}
+use Rattle.fit.proofs.FitCall.{fit-file, fit-asked, fit-builds, fit-places, fit-done}
 use Rattle.fit.proofs.fitting.fit.Statement.{statement}
 use Rattle.fit.proofs.fitting.fit.Tie as tie
 
@@ -15,13 +16,10 @@ refused-requires c κs = search needs
 returns : tie.Need-returns
 returns c =
     let at-read = c .before .before .before in
-    let start = at-read .before .before .before .before .before .before in
-    fit-file (start .args .file .now) (start .args .levels .now) (start .args .height) (start .args .width) (start .args .arena .now) (start .args .scratch .now) (start .args .output .now) _ (at-read .read .ensures) (c .before .if1 .taken) _ (c .refused .ensures)
+    fit-file _ _ _ _ _ _ _ _ (at-read .read .ensures) (c .before .if1 .taken) _ (c .refused .ensures)
 
 asked-number-requires : tie.Need-asked-number-requires
-asked-number-requires c κs =
-    let start = c .before .before .before .before .before .before .before .before in
-    fit-gauges (start .args .file .now) (start .args .levels .now) (start .args .height) (start .args .width) (start .args .arena .now) (start .args .scratch .now) (start .args .output .now) _ (c .before .before .read .ensures) (c .if1 .left)
+asked-number-requires c κs = read-few _ _ (c .before .before .read .ensures) (c .if1 .left) .gauges
 
 refused-requires-2 : tie.Need-refused-requires-2
 refused-requires-2 c κs = search needs
@@ -30,15 +28,14 @@ returns-2 : tie.Need-returns-2
 returns-2 c =
     let at-if1 = c .before .before .before in
     let at-read = at-if1 .before .before in
-    let start = at-read .before .before .before .before .before .before in
-    fit-asked (start .args .file .now) (start .args .levels .now) (start .args .height) (start .args .width) (start .args .arena .now) (start .args .scratch .now) (start .args .output .now) _ (at-read .read .ensures) (at-if1 .if1 .left) _ (c .before .before .asked-number .ensures) (λ e. let t = c .before .if2 .taken in omega arith) _ (c .refused2 .ensures)
+    fit-asked _ _ _ _ _ _ _ _ (at-read .read .ensures) (at-if1 .if1 .left) _ (c .before .before .asked-number .ensures) (λ e. let t = c .before .if2 .taken in omega arith) _ (c .refused2 .ensures)
 
 build-requires : tie.Need-build-requires
 build-requires c κs =
     let at-if1 = c .before .before .before in
     let at-read = at-if1 .before .before in
     let start = at-read .before .before .before .before .before .before in
-    fit-builds (start .args .file .now) (start .args .levels .now) (start .args .height) (start .args .width) (start .args .arena .now) (start .args .scratch .now) (start .args .output .now) _ (at-read .read .ensures) (at-if1 .if1 .left) _ (c .before .before .asked-number .ensures) (let t = c .before .if2 .left in omega arith)
+    fit-builds _ _ _ _ _ (start .args .scratch .now) (start .args .output .now) _ (at-read .read .ensures) (at-if1 .if1 .left) _ (c .before .before .asked-number .ensures) (let t = c .before .if2 .left in omega arith)
 
 place-face-requires : tie.Need-place-face-requires
 place-face-requires c κs =
@@ -47,7 +44,7 @@ place-face-requires c κs =
     let at-if1 = at-asked-number .before in
     let at-read = at-if1 .before .before in
     let start = at-read .before .before .before .before .before .before in
-    fit-places (start .args .file .now) (start .args .levels .now) (start .args .height) (start .args .width) (start .args .arena .now) (start .args .scratch .now) (start .args .output .now) _ (at-read .read .ensures) (at-if1 .if1 .left) _ (at-asked-number .asked-number .ensures) (let t = at-if2 .if2 .left in omega arith)
+    fit-places _ _ _ _ (start .args .arena .now) _ _ _ (at-read .read .ensures) (at-if1 .if1 .left) _ (at-asked-number .asked-number .ensures) (let t = at-if2 .if2 .left in omega arith)
 
 same-length : tie.Need-same-length
 same-length c = search needs
@@ -66,8 +63,7 @@ returns-3 c =
     let at-asked-number = at-if2 .before in
     let at-if1 = at-asked-number .before in
     let at-read = at-if1 .before .before in
-    let start = at-read .before .before .before .before .before .before in
-    fit-done (start .args .file .now) (start .args .levels .now) (start .args .height) (start .args .width) (start .args .arena .now) (start .args .scratch .now) (start .args .output .now) _ (at-read .read .ensures) (at-if1 .if1 .left) _ (at-asked-number .asked-number .ensures) (let t = at-if2 .if2 .left in omega arith) _ _ _ _ _ (at-build .build .ensures) (at-place-face .place-face .ensures)
+    fit-done _ _ _ _ _ _ _ _ (at-read .read .ensures) (at-if1 .if1 .left) _ (at-asked-number .asked-number .ensures) (let t = at-if2 .if2 .left in omega arith) _ _ _ _ _ (at-build .build .ensures) (at-place-face .place-face .ensures)
 
 pub fit-spec : {M : Type 1} → statement M
 fit-spec =

@@ -3,7 +3,8 @@
 use mathlib.Core.Path.{refl}
 use native.Mathlib.Omega.{arith}
 use borrow.Author.Needs.{needs}
-use Rattle.report.proofs.Telling.{text-short, text-long, text-refused, sizes-few, tallied-part, part-counted}
+use Rattle.lent.proofs.Calling.{read-few}
+use Rattle.report.proofs.Telling.{text-short, text-long, text-refused, tallied-part, part-counted}
 use Rattle.report.proofs.face.faces_text.Statement.{statement}
 use Rattle.report.proofs.face.faces_text.Tie as tie
 
@@ -34,14 +35,14 @@ levels-room-requires c κs = search needs
 
 array-borrow-prefix-levels : tie.Need-array-borrow-prefix-levels
 array-borrow-prefix-levels c =
-    let few = sizes-few (c .before .before .before .before .before .before .before .args .file .now) (c .before .before .before .read .result) (c .before .before .before .read .ensures) (c .before .if2 .left) in
+    let few = read-few _ _ (c .before .before .before .read .ensures) (c .before .if2 .left) in
     omega (arith, c .levels-room .ensures)
 
 slice-aggregate-taken-text : tie.Need-slice-aggregate-taken-text
 slice-aggregate-taken-text c =
     let at-read = c .before .before .before .before in
     let start = at-read .before .before .before .before in
-    let few = sizes-few (start .args .file .now) (at-read .read .result) (at-read .read .ensures) (c .before .before .if2 .left) in
+    let few = read-few _ _ (at-read .read .ensures) (c .before .before .if2 .left) in
     part-counted (at-read .read .result .sizes) (c .before .levels-room .result) (omega (arith, c .before .levels-room .ensures))
 
 taken-text-requires : tie.Need-taken-text-requires

@@ -1,9 +1,9 @@
--- `lent::levels::level_range_number` meets its contract.
+-- `lent::level_checks::level_range_number` meets its contract.
 -- Each way out is one answer of the question.
 use borrow.Author.Needs.{needs}
 use Rattle.lent.proofs.Asking.{range-out, range-fine}
-use Rattle.lent.proofs.levels.level_range_number.Statement.{statement}
-use Rattle.lent.proofs.levels.level_range_number.Tie as tie
+use Rattle.lent.proofs.level_checks.level_range_number.Statement.{statement}
+use Rattle.lent.proofs.level_checks.level_range_number.Tie as tie
 
 levels-in-range-requires : tie.Need-levels-in-range-requires
 levels-in-range-requires c κs = search needs

@@ -1,11 +1,11 @@
--- `lent::levels::levels_in_range` meets its contract.
+-- `lent::level_checks::levels_in_range` meets its contract.
 -- The loop keeps `Checked`, that the levels passed and those left decide together; the measure is the number of those left.
 use Prim.Native.Nat.{_-_}
 use lib.ListN.{length}
 use borrow.Author.Needs.{needs}
 use Rattle.lent.proofs.LevelRange.{Checked, checked-start, checked-more, checked-all}
-use Rattle.lent.proofs.levels.levels_in_range.Statement.{statement}
-use Rattle.lent.proofs.levels.levels_in_range.Tie as tie
+use Rattle.lent.proofs.level_checks.levels_in_range.Statement.{statement}
+use Rattle.lent.proofs.level_checks.levels_in_range.Tie as tie
 
 abbrev Inv-loop : tie.InvT-loop
 Inv-loop levels fine₀ i₀ fine i = Checked levels fine i

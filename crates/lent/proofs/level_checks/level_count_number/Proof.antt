@@ -1,9 +1,9 @@
--- `lent::levels::level_count_number` meets its contract.
+-- `lent::level_checks::level_count_number` meets its contract.
 -- Each way out is one answer of the question.
 use borrow.Author.Needs.{needs}
 use Rattle.lent.proofs.Asking.{count-other, count-same}
-use Rattle.lent.proofs.levels.level_count_number.Statement.{statement}
-use Rattle.lent.proofs.levels.level_count_number.Tie as tie
+use Rattle.lent.proofs.level_checks.level_count_number.Statement.{statement}
+use Rattle.lent.proofs.level_checks.level_count_number.Tie as tie
 
 returns : tie.Need-returns
 returns c = search (needs, count-other)

@@ -1,9 +1,9 @@
--- `lent::levels::levels_number` meets its contract.
+-- `lent::level_checks::levels_number` meets its contract.
 -- The first number that is not 0 is the answer.
 use borrow.Author.Needs.{needs}
 use Rattle.lent.proofs.Asking.{levels-other, levels-later}
-use Rattle.lent.proofs.levels.levels_number.Statement.{statement}
-use Rattle.lent.proofs.levels.levels_number.Tie as tie
+use Rattle.lent.proofs.level_checks.levels_number.Statement.{statement}
+use Rattle.lent.proofs.level_checks.levels_number.Tie as tie
 
 level-count-number-requires : tie.Need-level-count-number-requires
 level-count-number-requires c κs = search needs
