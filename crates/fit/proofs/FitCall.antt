@@ -6,6 +6,7 @@ use Prim.Native.Nat.{ℕ, _*_, _≤_}
 use native.Mathlib.Omega.{arith}
 use lib.ListN.{length}
 use Rattle.checks.specs.Check.{Check, Fits, numberOf}
+use Rattle.checks.specs.Limits.{bufferWords}
 use Rattle.checks.specs.Answer.{Answer, refused, taken, Asked, also, number}
 use Rattle.checks.proofs.Answers.{number-positive, not-both, same-taken, also-taken, RefusedBy, refused-weaker, also-refused}
 use Rattle.checks.proofs.FileChecks.{FileCheck, file-not-fits}
@@ -90,25 +91,25 @@ unfolding fitAsks
 asks-refused n g levels h w arena scratch output =
     also-refused NotFits (levelsLent n levels) _ (levels-refused NotFits n levels (λ e. omega arith) (λ e. omega arith))
     (also-refused NotFits (openingGiven (outline h w)) _ (opening-refused NotFits h w (λ e. omega arith))
-    (also-refused NotFits (buffersLent arena scratch) _ (buffers-refused NotFits arena scratch (λ e. omega arith))
+    (also-refused NotFits (buffersLent bufferWords arena scratch) _ (buffers-refused NotFits bufferWords arena scratch (λ e. omega arith))
     (output-refused NotFits (5 * g) output (λ e. omega arith))))
 
 -- What was asked of a face of n sizes and g gauges, where all was answered "yes".
 module _ (n g : ℕ) (levels : List ℕ) (h w arena scratch output : ℕ) where
   pub record Lended : Type 0 where
     pub levelled : Levelled n levels
-    pub arena-long : 16_384 ≤ arena
-    pub scratch-long : 16_384 ≤ scratch
+    pub arena-long : bufferWords ≤ arena
+    pub scratch-long : bufferWords ≤ scratch
     pub room : 5 * g ≤ output
 
   asks-taken : fitAsks n g levels (outline h w) arena scratch output ≡ taken tt → Lended
   unfolding fitAsks
   asks-taken e =
-      let words = also (buffersLent arena scratch) (outputLent (5 * g) output) in
+      let words = also (buffersLent bufferWords arena scratch) (outputLent (5 * g) output) in
       let first = also-taken (levelsLent n levels) (also (openingGiven (outline h w)) words) tt e in
       let given = also-taken (openingGiven (outline h w)) words tt (first .1) in
-      let rest = also-taken (buffersLent arena scratch) (outputLent (5 * g) output) tt (given .1) in
-      let long = buffers-taken arena scratch (rest .0) in
+      let rest = also-taken (buffersLent bufferWords arena scratch) (outputLent (5 * g) output) tt (given .1) in
+      let long = buffers-taken bufferWords arena scratch (rest .0) in
       record {
         levelled = levels-taken n levels (first .0);
         arena-long = long .0;

@@ -3,6 +3,7 @@ use mathlib.Core.List.{List}
 use Prim.Native.Nat.{ℕ, _*_}
 use lib.ListN.{length}
 use Rattle.checks.specs.Check.{Fits, numberOf}
+use Rattle.checks.specs.Limits.{bufferWords}
 use Rattle.checks.specs.Answer.{Answer, refused, taken, Asked, also}
 use Rattle.slicing.specs.Item.{height, width}
 use Rattle.slicing.specs.Tree.{Tree, gaugeCount, sizeCount}
@@ -17,7 +18,7 @@ use Rattle.fit.specs.declared.Fitted.{Fitted}
 -- Of a face of n sizes and g gauges, with buffers of so many words: "As many levels as sizes? 14. Each level 1 to 8? 15. Opening height and width both 1 to 64,000? 16. Arena and scratch, each 16,384 32-bit words or more? 17. Output long enough? 18. ... the fit call 5g."
 unfoldable pub fitAsks : ℕ → ℕ → List ℕ → Outline → (arena scratch output : ℕ) → Asked
 fitAsks n g levels o arena scratch output =
-    also (levelsLent n levels) (also (openingGiven o) (also (buffersLent arena scratch) (outputLent (5 * g) output)))
+    also (levelsLent n levels) (also (openingGiven o) (also (buffersLent bufferWords arena scratch) (outputLent (5 * g) output)))
 
 -- The fit call makes checks 1 to 18. What they take is the face.
 unfoldable pub fitChecks : Answer Tree → List ℕ → Outline → Lent → Answer Tree

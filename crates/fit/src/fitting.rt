@@ -10,6 +10,7 @@ ghost use Rattle.fit.specs.Fitting.{fitAsks, noFace};
 ghost use Rattle.fit.specs.inside.Facing.{Placeable, PlacedIn};
 ghost use Rattle.fit.specs.Promise.{FitPromise};
 use crate::Fitted;
+use checks::limits::WORDS;
 use laying::lay::item_at;
 use laying::lay::lay;
 use parts::build::build;
@@ -32,7 +33,7 @@ fn asked_number(n: usize, g: usize, levels: &[u8], height: u32, width: u32, leng
     requires { ⌜ g ≤ mostGauges ⌝ }
     ensures { λ r. ⌜ r ≡ number (fitAsks n g (now (levels .entry)) (outline height width) (lengths .arena) (lengths .scratch) (lengths .output)) ⌝ }
 {
-    let buffers = lent::buffers_number(lengths.arena, lengths.scratch);
+    let buffers = lent::buffers_number(WORDS, lengths.arena, lengths.scratch);
     let words = checks::first_no(buffers, lent::output_number(5 * g, lengths.output));
     let given = checks::first_no(lent::opening_number(height, width), words);
     checks::first_no(lent::levels_number(n, levels), given)

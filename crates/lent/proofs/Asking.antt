@@ -8,7 +8,7 @@ use lib.Dec.{leb, eqb}
 use lib.ListN.{length, getD}
 use borrow.Author.Tests.{leb-true, eqb-true, le-leb, lt-leb, eq-eqb, ne-eqb, not-true, not-false}
 use Rattle.checks.specs.Check.{Check, LevelCount, LevelRange, Opening, Buffers, Output}
-use Rattle.checks.specs.Limits.{mostOpening, bufferWords}
+use Rattle.checks.specs.Limits.{mostOpening}
 use Rattle.checks.specs.Answer.{taken, number}
 use Rattle.checks.proofs.Answers.{ask-taken, also-taken, also-first, also-later, RefusedBy, ask-refused, also-refused}
 use Rattle.slicing.specs.Layout.{outline}
@@ -84,26 +84,26 @@ module _ (height width : ℕ) where
       opening-fine wide = simp (sym e ∙ not-false b high, sym f ∙ not-false c wide)
 
 -- 17.
-module _ (arena scratch : ℕ) where
-  pub buffers-arena : arena < bufferWords → 17 ≡ number (buffersLent arena scratch)
+module _ (need arena scratch : ℕ) where
+  pub buffers-arena : arena < need → 17 ≡ number (buffersLent need arena scratch)
   unfolding buffersLent
-  buffers-arena short = simp (lt-leb bufferWords arena short)
+  buffers-arena short = simp (lt-leb need arena short)
 
-  module _ (long : bufferWords ≤ arena) where
-    pub buffers-scratch : scratch < bufferWords → 17 ≡ number (buffersLent arena scratch)
+  module _ (long : need ≤ arena) where
+    pub buffers-scratch : scratch < need → 17 ≡ number (buffersLent need arena scratch)
     unfolding buffersLent
-    buffers-scratch short = simp (le-leb bufferWords arena long, lt-leb bufferWords scratch short)
+    buffers-scratch short = simp (le-leb need arena long, lt-leb need scratch short)
 
-    pub buffers-fine : bufferWords ≤ scratch → 0 ≡ number (buffersLent arena scratch)
+    pub buffers-fine : need ≤ scratch → 0 ≡ number (buffersLent need arena scratch)
     unfolding buffersLent
-    buffers-fine both = simp (le-leb bufferWords arena long, le-leb bufferWords scratch both)
+    buffers-fine both = simp (le-leb need arena long, le-leb need scratch both)
 
-  pub buffers-taken : buffersLent arena scratch ≡ taken tt → (bufferWords ≤ arena) × (bufferWords ≤ scratch)
+  pub buffers-taken : buffersLent need arena scratch ≡ taken tt → (need ≤ arena) × (need ≤ scratch)
   unfolding buffersLent
   buffers-taken e =
-      let all = ask-taken (leb bufferWords arena && leb bufferWords scratch) Buffers (taken tt) tt e .0 in
-      let both = and-eq-true-iff (leb bufferWords arena) (leb bufferWords scratch) .0 all in
-      (leb-true bufferWords arena (both .0), leb-true bufferWords scratch (both .1))
+      let all = ask-taken (leb need arena && leb need scratch) Buffers (taken tt) tt e .0 in
+      let both = and-eq-true-iff (leb need arena) (leb need scratch) .0 all in
+      (leb-true need arena (both .0), leb-true need scratch (both .1))
 
 -- 18.
 module _ (need output : ℕ) where
@@ -133,10 +133,10 @@ module _ (P : Check → Type 0) where
   opening-refused height width opening =
       ask-refused P (within 1 mostOpening height && within 1 mostOpening width) Opening (taken tt) opening tt
 
-  pub buffers-refused : (arena scratch : ℕ) → P Buffers → RefusedBy P (buffersLent arena scratch)
+  pub buffers-refused : (need arena scratch : ℕ) → P Buffers → RefusedBy P (buffersLent need arena scratch)
   unfolding buffersLent
-  buffers-refused arena scratch buffers =
-      ask-refused P (leb bufferWords arena && leb bufferWords scratch) Buffers (taken tt) buffers tt
+  buffers-refused need arena scratch buffers =
+      ask-refused P (leb need arena && leb need scratch) Buffers (taken tt) buffers tt
 
   pub output-refused : (need output : ℕ) → P Output → RefusedBy P (outputLent need output)
   unfolding outputLent

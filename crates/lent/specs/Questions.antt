@@ -5,7 +5,7 @@ use Prim.Native.Nat.{ℕ}
 use lib.Dec.{leb, eqb}
 use lib.ListN.{length}
 use Rattle.checks.specs.Check.{LevelCount, LevelRange, Opening, Buffers, Output}
-use Rattle.checks.specs.Limits.{mostOpening, bufferWords}
+use Rattle.checks.specs.Limits.{mostOpening}
 use Rattle.checks.specs.Answer.{Asked, taken, ask, also}
 use Rattle.slicing.specs.Layout.{Outline}
 use Rattle.facefile.specs.Format.{within}
@@ -31,9 +31,9 @@ levelsLent n levels = also (levelCount n (length levels)) (levelRange levels)
 unfoldable pub openingGiven : Outline → Asked
 openingGiven o = ask (within 1 mostOpening (o .height) && within 1 mostOpening (o .width)) Opening (taken tt)
 
--- "Arena and scratch, each 16,384 32-bit words or more? 17."
-unfoldable pub buffersLent : (arena scratch : ℕ) → Asked
-buffersLent arena scratch = ask (leb bufferWords arena && leb bufferWords scratch) Buffers (taken tt)
+-- "Arena and scratch, each 16,384 32-bit words or more? 17." Each call says how many words it needs.
+unfoldable pub buffersLent : (need arena scratch : ℕ) → Asked
+buffersLent need arena scratch = ask (leb need arena && leb need scratch) Buffers (taken tt)
 
 -- "Output long enough? 18." Each call says how many words it needs.
 unfoldable pub outputLent : (need output : ℕ) → Asked

@@ -4,7 +4,6 @@ ghost use Rattle.checks.specs.Answer.{number};
 ghost use Rattle.slicing.specs.Layout.{outline};
 ghost use Rattle.lent.specs.Questions.{openingGiven, buffersLent, outputLent};
 use checks::limits::OPENING;
-use checks::limits::WORDS;
 use facefile::is_within;
 
 // Check 16, of an opening.
@@ -21,13 +20,13 @@ pub fn opening_number(height: u32, width: u32) -> u32
 }
 
 // Check 17, of an arena and a scratch of so many words.
-pub fn buffers_number(arena: usize, scratch: usize) -> u32
-    ensures { λ r. ⌜ r ≡ number (buffersLent arena scratch) ⌝ }
+pub fn buffers_number(need: usize, arena: usize, scratch: usize) -> u32
+    ensures { λ r. ⌜ r ≡ number (buffersLent need arena scratch) ⌝ }
 {
-    if arena < WORDS {
+    if arena < need {
         return checks::BUFFERS;
     }
-    if scratch < WORDS {
+    if scratch < need {
         return checks::BUFFERS;
     }
     checks::TAKEN

@@ -8,6 +8,7 @@ use lib.Dec.{leb, eqb}
 use lib.ListN.{length, getD}
 use borrow.Author.Tests.{leb-true, le-leb, lt-leb, eqb-true, eq-eqb}
 use Rattle.checks.specs.Check.{Check, LazyList, Place}
+use Rattle.checks.specs.Limits.{bufferWords}
 use Rattle.checks.specs.Answer.{Answer, refused, taken, ask, next}
 use Rattle.checks.proofs.Answers.{ask-taken, next-taken, RefusedBy, ask-refused, next-refused}
 use Rattle.slicing.specs.Item.{Item, size}
@@ -80,14 +81,14 @@ module _ (a : List ℕ) (m p : ℕ) (head : level a 0 ≡ 8) where
       ∙ ap (λ (b : Bool). ask b LazyList (taken (held a 0 [] rs))) right
 
 -- The answers.
-pub short-arena : (a : List ℕ) (place : ℕ) (z : Reading) → length a < 16_384 → z ≡ refusedReading 17 → z ≡ reading (readItem a place)
+pub short-arena : (a : List ℕ) (place : ℕ) (z : Reading) → length a < bufferWords → z ≡ refusedReading 17 → z ≡ reading (readItem a place)
 unfolding readItem
-short-arena a place z h e = e ∙ rw (lt-leb 16_384 (length a) h)
+short-arena a place z h e = e ∙ rw (lt-leb bufferWords (length a) h)
 
-module _ (a : List ℕ) (place : ℕ) (long : 16_384 ≤ length a) where
+module _ (a : List ℕ) (place : ℕ) (long : bufferWords ≤ length a) where
   pub no-list : (z : Reading) → ((l : List Recorded) → lazyList a ≡ taken l → ⊥) → z ≡ refusedReading 20 → z ≡ reading (readItem a place)
   unfolding readItem
-  no-list z f e = e ∙ rw (le-leb 16_384 (length a) long, by-list (lazyList a) (lazy-by a) f)
+  no-list z f e = e ∙ rw (le-leb bufferWords (length a) long, by-list (lazyList a) (lazy-by a) f)
 
   pub no-head : (z : Reading) (w : ℕ) → w ≡ level a 0 → (w ≡ 8 → ⊥) → z ≡ refusedReading 20 → z ≡ reading (readItem a place)
   unfolding lazyList
@@ -99,7 +100,7 @@ module _ (a : List ℕ) (place : ℕ) (long : 16_384 ≤ length a) where
   pub list-read : (z : Reading) (found : Item) (count : ℕ) (l : List Recorded) → lazyList a ≡ taken l → length l ≡ count → (1 ≤ place → place ≤ count → getD (items l) (place - 1) (size 0 0) ≡ found) → z ≡ readAt count place (found .m) (found .p) → z ≡ reading (readItem a place)
   unfolding readItem readAt
   list-read z found count l holds size-is item-is e =
-      e ∙ rw (le-leb 16_384 (length a) long, holds, size-is) (go (leb 1 place) (leb place count) refl refl)
+      e ∙ rw (le-leb bufferWords (length a) long, holds, size-is) (go (leb 1 place) (leb place count) refl refl)
     where
       go : (b d : Bool) → leb 1 place ≡ b → leb place count ≡ d → cond (b && d) (record { number = 0; m = found .m; p = found .p }) (refusedReading 21) ≡ reading (ask (b && d) Place (taken (getD (items l) (place - 1) (size 0 0))))
       go true true h k = rw (item-is (leb-true 1 place h) (leb-true place count k))

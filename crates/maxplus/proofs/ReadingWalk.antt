@@ -9,6 +9,7 @@ use lib.Dec.{eqb}
 use lib.ListN.{length, getD, replicate, length-append, length-map, List·getD-append}
 use lib.Seq.{getD-at}
 use borrow.Author.Tests.{eqb-true, eqb-false}
+use Rattle.checks.specs.Limits.{bufferWords}
 use Rattle.checks.specs.Answer.{taken}
 use Rattle.slicing.specs.Item.{Item, size}
 use Rattle.slicing.specs.Recorded.{Recorded, items}
@@ -68,7 +69,7 @@ size-items a xs = length-map (held a 0 [] xs) (λ (r : Recorded). r .item) ∙ h
 -- What the walk keeps, come to the record `next` after `count` others.
 pub record Walking (a : List ℕ) (place : ℕ) (e s : List ℕ) (next count : ℕ) (before found : Read) : Type 0 where
   pub passed : List ℕ
-  pub long : 16_384 ≤ length a
+  pub long : bufferWords ≤ length a
   pub few : count ≤ 512
   pub counted : length passed ≡ count
   pub due-long : length e ≡ 8
@@ -79,7 +80,7 @@ pub record Walking (a : List ℕ) (place : ℕ) (e s : List ℕ) (next count : �
   pub up : (rs : List ℕ) → Rest a (512 - count) passed count (before .m) (before .p) rs → lazyList a ≡ taken (held a 0 [] (passed ++ rs))
   pub met : 1 ≤ place → place ≤ count → getD (items (held a 0 [] passed)) (place - 1) (size 0 0) ≡ size (found .m) (found .p)
 
-module _ (a : List ℕ) (long : 16_384 ≤ length a) (head : level a 0 ≡ 8) where
+module _ (a : List ℕ) (long : bufferWords ≤ length a) (head : level a 0 ≡ 8) where
   pub head-enterable : Enterable a 0 (replicate 9 0)
   head-enterable = record { has = omega arith; nine = refl; none = refl }
 

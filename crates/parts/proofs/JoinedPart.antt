@@ -16,7 +16,7 @@ use Rattle.arena.proofs.Frames.{all-map}
 use Rattle.arena.proofs.PutLaws.{same-trans}
 use Rattle.stepping.specs.inside.Trio.{Roomy}
 use Rattle.merging.specs.inside.Merge.{Mergeable, Merged}
-use Rattle.parts.specs.inside.Part.{headOf, Part, Suits}
+use Rattle.parts.specs.inside.Part.{firstHead, headOf, Part, Suits}
 use Rattle.parts.specs.inside.Copying.{Copied}
 use Rattle.parts.specs.inside.Joining.{turnedIf, Ranged, Turns, Faces, Joinable, Joined}
 use Rattle.parts.proofs.PartLaws.{away-out, part-length, part-frame, part-copied}
@@ -36,14 +36,14 @@ inside-of lo hi (r ∷ rs) h = (
   inside-of lo hi rs (λ x out. h x out .1),
 )
 
-heads-apart : (s t : Bool) (place : ℕ) → place < 63 → cond s 577 (513 + place) ≡ cond t 578 (513 + (place + 1)) → ⊥
+heads-apart : (s t : Bool) (place : ℕ) → place < 63 → cond s 577 (firstHead + place) ≡ cond t 578 (firstHead + (place + 1)) → ⊥
 heads-apart true true place low e = omega arith
 heads-apart true false place low e = omega arith
 heads-apart false true place low e = omega arith
 heads-apart false false place low e = omega arith
 
 -- Two parts of neighbouring ranges can be merged to record 0.
-module _ (levels c : List ℕ) (x y lo mid hi : ℕ) (l k : List Recorded) (p : Part levels c x lo mid l) (q : Part levels c y mid hi k) (older-range : Ranged c lo mid) (newer-range : Ranged c mid hi) (older-suits : Suits l) (newer-suits : Suits k) (x-high : 513 ≤ x) (y-high : 513 ≤ y) (apart : x ≡ y → ⊥) where
+module _ (levels c : List ℕ) (x y lo mid hi : ℕ) (l k : List Recorded) (p : Part levels c x lo mid l) (q : Part levels c y mid hi k) (older-range : Ranged c lo mid) (newer-range : Ranged c mid hi) (older-suits : Suits l) (newer-suits : Suits k) (x-high : firstHead ≤ x) (y-high : firstHead ≤ y) (apart : x ≡ y → ⊥) where
   off : (low high z : ℕ) (rs : List ℕ) → high ≤ z → All (λ u. (low ≤ u) × (u < high)) rs → Away z rs
   off low high z rs above inside = away-out low high z rs (λ i. let v = i .1 in omega arith) inside
 
@@ -153,11 +153,11 @@ module _ (levels a : List ℕ) (place lo mid hi : ℕ) (l k : List Recorded) (s 
 
     -- And so does the newer one.
     module _ (c : List ℕ) (y : ℕ) (h : Faces levels b c newer-head 578 mid hi k t y) where
-      pub x-high : 513 ≤ x
-      x-high = subst (λ (z : ℕ). 513 ≤ z) (sym (f .head)) (cond-holds (λ (z : ℕ). 513 ≤ z) s 577 older-head (omega arith) (omega arith))
+      pub x-high : firstHead ≤ x
+      x-high = subst (λ (z : ℕ). firstHead ≤ z) (sym (f .head)) (cond-holds (λ (z : ℕ). firstHead ≤ z) s 577 older-head (omega arith) (omega arith))
 
-      y-high : 513 ≤ y
-      y-high = subst (λ (z : ℕ). 513 ≤ z) (sym (h .head)) (cond-holds (λ (z : ℕ). 513 ≤ z) t 578 newer-head (omega arith) (omega arith))
+      y-high : firstHead ≤ y
+      y-high = subst (λ (z : ℕ). firstHead ≤ z) (sym (h .head)) (cond-holds (λ (z : ℕ). firstHead ≤ z) t 578 newer-head (omega arith) (omega arith))
 
       pub x-other : (z : ℕ) → (577 ≡ z → ⊥) → (older-head ≡ z → ⊥) → x ≡ z → ⊥
       x-other z p q e = cond-holds (λ (u : ℕ). u ≡ z → ⊥) s 577 older-head p q (sym (f .head) ∙ e)

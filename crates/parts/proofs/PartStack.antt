@@ -9,7 +9,7 @@ use Rattle.slicing.specs.Tree.{Tree, sizesOf}
 use Rattle.slicing.specs.Recorded.{partRecorded}
 use Rattle.facefile.specs.inside.Tracking.{flat}
 use Rattle.arena.specs.inside.Chain.{Same}
-use Rattle.parts.specs.inside.Part.{headOf, Parts}
+use Rattle.parts.specs.inside.Part.{firstHead, headOf, Parts}
 use Rattle.parts.proofs.PartLaws.{part-frame}
 
 pub parts-some : (levels a : List ℕ) (stack : List Tree) (hi : ℕ) → Parts levels a stack hi → 1 ≤ hi
@@ -28,7 +28,7 @@ parts-total levels a (t ∷ stack) hi p =
     let both = length-append (flat sizesOf stack) (sizesOf t) in
     omega arith
 
-pub parts-frame : (levels a b : List ℕ) (stack : List Tree) (hi : ℕ) → length b ≡ length a → hi ≤ 513 → ((x : ℕ) → 1 ≤ x → x < hi → Same a b x) → ((i : ℕ) → i < length stack → Same a b (headOf i)) → Parts levels a stack hi → Parts levels b stack hi
+pub parts-frame : (levels a b : List ℕ) (stack : List Tree) (hi : ℕ) → length b ≡ length a → hi ≤ firstHead → ((x : ℕ) → 1 ≤ x → x < hi → Same a b x) → ((i : ℕ) → i < length stack → Same a b (headOf i)) → Parts levels a stack hi → Parts levels b stack hi
 parts-frame levels a b [] hi long most records heads p = p
 parts-frame levels a b (t ∷ stack) hi long most records heads p =
     let e = p .1 in

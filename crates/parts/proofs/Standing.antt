@@ -8,6 +8,7 @@ use native.Mathlib.Numerals.{add-one}
 use native.Mathlib.Omega.{arith}
 use lib.ListN.{length, getD, set, take, drop, length-append, length-drop}
 use lib.Seq.{getD-take, getD-drop, length-take-le}
+use Rattle.checks.specs.Limits.{bufferWords}
 use Rattle.checks.specs.Answer.{taken}
 use Rattle.slicing.specs.Item.{Item}
 use Rattle.slicing.specs.Tree.{Tree, gauge, sizesOf, gaugeCount, sizeCount}
@@ -30,7 +31,7 @@ use Rattle.facefile.proofs.WalkSteps.{walk-end, found-gauge, found-join}
 use Rattle.facefile.proofs.WalkStack.{walk-sizes, walk-face, join-good, join-gauges, Counted, counted-start, counted-room, counted-gauge, counted-two, counted-below, counted-join}
 use Rattle.arena.specs.inside.Chain.{Away}
 use Rattle.parts.specs.inside.Loading.{numbers, Loadable, Loaded}
-use Rattle.parts.specs.inside.Part.{headOf, Part, Suits, Parts}
+use Rattle.parts.specs.inside.Part.{firstHead, headOf, Part, Suits, Parts}
 use Rattle.parts.specs.inside.Copying.{Copied}
 use Rattle.parts.specs.inside.Joining.{turnedIf, Joinable, Joined}
 use Rattle.parts.specs.inside.Building.{Buildable, Whole}
@@ -64,7 +65,7 @@ module _ (file levels a₀ a kinds : List ℕ) (at parts done : ℕ) (k : Standi
   abbrev face : Tree
   face = k .ready .tree
 
-  pub standing-long : 16_384 ≤ length a
+  pub standing-long : bufferWords ≤ length a
   standing-long = let long = k .ready .long in let same = k .length-kept in omega arith
 
   few-sizes : sizeCount face ≤ 512
@@ -97,7 +98,7 @@ module _ (file levels a₀ a kinds : List ℕ) (at parts done : ℕ) (k : Standi
           let all = k .ready .as-many in
           omega arith
 
-      pub records-left : done + g .count < 513
+      pub records-left : done + g .count < firstHead
       records-left = let l = levels-left in let all = k .ready .as-many in let f = few-sizes in omega arith
 
       abbrev own : List ℕ
@@ -112,7 +113,7 @@ module _ (file levels a₀ a kinds : List ℕ) (at parts done : ℕ) (k : Standi
       own-at : (i : ℕ) → i < g .count → getD own i 0 ≡ getD levels (done + i) 0
       own-at i less = getD-take (done + g .count - done) (drop done levels) i 0 (omega arith) ∙ getD-drop done levels i 0
 
-      pub gauge-loads : Loadable a (513 + parts) (done + 1) bytes own
+      pub gauge-loads : Loadable a (firstHead + parts) (done + 1) bytes own
       gauge-loads =
           let long = standing-long in
           let room = gauge-room in
@@ -132,7 +133,7 @@ module _ (file levels a₀ a kinds : List ℕ) (at parts done : ℕ) (k : Standi
           }
 
       -- The parts below stand as they did, and the gauge on them.
-      module _ (b : List ℕ) (d : Loaded a (513 + parts) (done + 1) bytes own b) where
+      module _ (b : List ℕ) (d : Loaded a (firstHead + parts) (done + 1) bytes own b) where
         abbrev loaded : List ℕ
         loaded = numbers (done + 1) (length own)
 
@@ -153,9 +154,9 @@ module _ (file levels a₀ a kinds : List ℕ) (at parts done : ℕ) (k : Standi
 
         on-top : Part levels b (headOf (length (k .stack))) (done + 1) (done + g .count + 1) (partRecorded 0 (done + 1) (gauge sizes))
         on-top =
-            let head : 513 + parts ≡ headOf (length (k .stack)) = ap (λ (i : ℕ). 513 + i) (sym (k .walked .count)) in
+            let head : firstHead + parts ≡ headOf (length (k .stack)) = ap (λ (i : ℕ). firstHead + i) (sym (k .walked .count)) in
             let end : done + 1 + g .count ≡ done + g .count + 1 = omega arith in
-            rw (← head, ← end) (loaded-part levels a b (513 + parts) done (g .count) bytes own sizes refl own-at own-long d)
+            rw (← head, ← end) (loaded-part levels a b (firstHead + parts) done (g .count) bytes own sizes refl own-at own-long d)
 
         pub standing-gauge : (l : List ℕ) → l ≡ set kinds parts 0x01 → Standing file levels a₀ b l (g .next) (parts + 1) (done + g .count)
         standing-gauge l stored =
@@ -310,16 +311,16 @@ module _ (file levels a₀ a kinds : List ℕ) (at parts done : ℕ) (k : Standi
     root : Parts levels a (face ∷ []) (done + 1)
     root = subst (λ (s : List Tree). Parts levels a s (done + 1)) last-stack (k .stands)
 
-    pub standing-whole : (b : List ℕ) (kind : ℕ) → Copied a 513 0 b → kind ≡ getD kinds 0 0 → (t : Tree) → faceOf file ≡ taken t → Whole file levels a₀ b kind t
+    pub standing-whole : (b : List ℕ) (kind : ℕ) → Copied a firstHead 0 b → kind ≡ getD kinds 0 0 → (t : Tree) → faceOf file ≡ taken t → Whole file levels a₀ b kind t
     standing-whole b kind c kind-is t e =
         let same = walk-face file face at (k .stack) (k .walked .walk) t e in
         let from : root .0 ≡ 1 = root .3 in
         let to : done + 1 ≡ 1 + sizeCount face = root .1 ∙ ap (λ (x : ℕ). x + sizeCount face) from in
-        let here : Part levels a 513 1 (1 + sizeCount face) (partRecorded 0 1 face) = subst (λ (x : ℕ). Part levels a 513 1 x (partRecorded 0 1 face)) to (subst (λ (x : ℕ). Part levels a 513 x (done + 1) (partRecorded 0 x face)) from (root .2)) in
+        let here : Part levels a firstHead 1 (1 + sizeCount face) (partRecorded 0 1 face) = subst (λ (x : ℕ). Part levels a firstHead 1 x (partRecorded 0 1 face)) to (subst (λ (x : ℕ). Part levels a firstHead x (done + 1) (partRecorded 0 x face)) from (root .2)) in
         let holds = subst (λ (s : List Tree). Column kindOf kinds s) last-stack (k .kinds-held) in
         subst (λ (x : Tree). Whole file levels a₀ b kind x) same
         (record {
           length-kept = c .length-kept ∙ k .length-kept;
           kind-is = kind-is ∙ holds .held .0;
-          part = part-copied levels a b 513 0 1 (1 + sizeCount face) (partRecorded 0 1 face) here (let long = standing-long in omega arith) (λ i. let w = i .0 in omega arith) c;
+          part = part-copied levels a b firstHead 0 1 (1 + sizeCount face) (partRecorded 0 1 face) here (let long = standing-long in omega arith) (λ i. let w = i .0 in omega arith) c;
         })

@@ -5,6 +5,10 @@ ghost use Rattle.arena.specs.inside.Building.{Hookable};
 ghost use Rattle.parts.specs.inside.Loading.{Placed, Loadable, Loaded};
 use arena::empty::clear_head;
 use arena::prepend::prepend;
+use arena::words::FORWARD;
+use arena::words::LEVEL;
+use arena::words::M;
+use arena::words::P;
 use arena::words::store;
 use facefile::size_in;
 
@@ -20,10 +24,10 @@ fn load_record(arena: &mut [u32], head: usize, r: usize, last: u32, level: u32, 
     requires { ⌜ Hookable (now arena) head r × (1 ≤ level) × (level ≤ 8) ⌝ }
     ensures { λ _. ⌜ Placed (now (arena .entry)) head r last level m p (now (arena .exit)) ⌝ }
 {
-    store(arena, r, 0, level);
-    store(arena, r, 1, m);
-    store(arena, r, 2, p);
-    store(arena, r, 3, last);
+    store(arena, r, LEVEL, level);
+    store(arena, r, M, m);
+    store(arena, r, P, p);
+    store(arena, r, FORWARD, last);
     prepend(arena, head, r);
 }
 
@@ -45,5 +49,5 @@ pub fn load(arena: &mut [u32], head: usize, first: usize, sizes: &[u8], levels: 
         last = r as u32;
         i = k;
     }
-    store(arena, head, 3, last);
+    store(arena, head, FORWARD, last);
 }

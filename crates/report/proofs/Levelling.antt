@@ -5,6 +5,7 @@ use mathlib.Core.List.{List}
 use Prim.Native.Nat.{ℕ, _+_, _≤_, _<_}
 use native.Mathlib.Omega.{arith}
 use lib.ListN.{length, getD}
+use Rattle.checks.specs.Limits.{bufferWords}
 use Rattle.checks.specs.Answer.{taken}
 use Rattle.slicing.specs.Tree.{Tree, gaugeCount, sizeCount, leastDepth, mostDepth}
 use Rattle.slicing.proofs.Counts.{counted}
@@ -60,7 +61,7 @@ module _ (file levels : List ℕ) (gauges : ℕ) (k : Levelled file levels gauge
   abbrev t : Tree
   t = k .tallied .tree
 
-  pub writable : (arena output : List ℕ) → 16_384 ≤ length arena → 898 ≤ length output → Writable file levels arena output
+  pub writable : (arena output : List ℕ) → bufferWords ≤ length arena → 898 ≤ length output → Writable file levels arena output
   writable arena output long room =
       record {
         ready =
@@ -75,7 +76,7 @@ module _ (file levels : List ℕ) (gauges : ℕ) (k : Levelled file levels gauge
         room = let most = sizes-most file t (k .tallied .face) in omega arith;
       }
 
-  pub placeable : (scratch output : List ℕ) → 16_384 ≤ length scratch → 320 ≤ length output → Placeable file gauges scratch output
+  pub placeable : (scratch output : List ℕ) → bufferWords ≤ length scratch → 320 ≤ length output → Placeable file gauges scratch output
   placeable scratch output long room =
       record {
         tree = t;

@@ -5,6 +5,7 @@ use mathlib.Core.List.{List}
 use Prim.Native.Nat.{ℕ, _+_, _*_, _-_, _≤_}
 use lib.ListN.{length}
 use Rattle.checks.specs.Check.{Check, numberOf}
+use Rattle.checks.specs.Limits.{bufferWords}
 use Rattle.checks.specs.Answer.{Answer, refused, taken, Asked, also, number}
 use Rattle.checks.proofs.Answers.{also-taken}
 use Rattle.slicing.specs.Tree.{Tree, gaugeCount, sizeCount}
@@ -24,18 +25,18 @@ use Rattle.shapes.specs.inside.Taken.{Writable, Wrote}
 module _ (n g : ℕ) (levels : List ℕ) (arena scratch output : ℕ) where
   pub record Lended : Type 0 where
     pub levelled : Levelled n levels
-    pub arena-long : 16_384 ≤ arena
+    pub arena-long : bufferWords ≤ arena
     pub room : 2 * (n - g + 1) ≤ output
 
   asks-taken : listAsks n g levels arena scratch output ≡ taken tt → Lended
   unfolding listAsks
   asks-taken e =
-      let words = also (buffersLent arena scratch) (outputLent (2 * (n - g + 1)) output) in
+      let words = also (buffersLent bufferWords arena scratch) (outputLent (2 * (n - g + 1)) output) in
       let first = also-taken (levelsLent n levels) words tt e in
-      let rest = also-taken (buffersLent arena scratch) (outputLent (2 * (n - g + 1)) output) tt (first .1) in
+      let rest = also-taken (buffersLent bufferWords arena scratch) (outputLent (2 * (n - g + 1)) output) tt (first .1) in
       record {
         levelled = levels-taken n levels (first .0);
-        arena-long = buffers-taken arena scratch (rest .0) .0;
+        arena-long = buffers-taken bufferWords arena scratch (rest .0) .0;
         room = output-taken (2 * (n - g + 1)) output (rest .1);
       }
 

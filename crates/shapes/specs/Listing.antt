@@ -3,6 +3,7 @@ use mathlib.Core.Path.{_≡_}
 use mathlib.Core.List.{List, [], _∷_, List·Memᴰ}
 use Prim.Native.Nat.{ℕ, _+_, _*_, _-_}
 use lib.ListN.{length, getD}
+use Rattle.checks.specs.Limits.{bufferWords}
 use Rattle.checks.specs.Answer.{Answer, refused, taken, Asked, also, number, outcome}
 use Rattle.slicing.specs.Item.{Item, height, width}
 use Rattle.slicing.specs.Tree.{Tree, gaugeCount, sizeCount}
@@ -18,7 +19,7 @@ use Rattle.shapes.specs.declared.Listed.{Listed}
 -- Of a face of n sizes and g gauges, with buffers of so many words: "As many levels as sizes? 14. Each level 1 to 8? 15." "Arena and scratch, each 16,384 32-bit words or more? 17. Output long enough? 18. The list call needs 2(n - g + 1) words".
 unfoldable pub listAsks : ℕ → ℕ → List ℕ → (arena scratch output : ℕ) → Asked
 listAsks n g levels arena scratch output =
-    also (levelsLent n levels) (also (buffersLent arena scratch) (outputLent (2 * (n - g + 1)) output))
+    also (levelsLent n levels) (also (buffersLent bufferWords arena scratch) (outputLent (2 * (n - g + 1)) output))
 
 -- The list call makes checks 1 to 18 but 16. What is taken is the face.
 unfoldable pub listCall : Answer Tree → List ℕ → Lent → Answer Tree

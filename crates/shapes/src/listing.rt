@@ -10,6 +10,7 @@ ghost use Rattle.shapes.specs.inside.Taken.{Writable, Wrote};
 use crate::Listed;
 use crate::write::write_by_height;
 use crate::write::write_by_width;
+use checks::limits::WORDS;
 use parts::build::build;
 
 // Checks 14 to 18, of the levels and of the lengths of the lent buffers: the number of the first that fails, or 0.
@@ -24,7 +25,7 @@ fn asked_number(
     requires { ⌜ (g ≤ n) × (n ≤ mostSizes) ⌝ }
     ensures { λ r. ⌜ r ≡ number (listAsks n g (now (levels .entry)) arena scratch output) ⌝ }
 {
-    let buffers = lent::buffers_number(arena, scratch);
+    let buffers = lent::buffers_number(WORDS, arena, scratch);
     let room = lent::output_number(2 * (n - g + 1), output);
     let words = checks::first_no(buffers, room);
     checks::first_no(lent::levels_number(n, levels), words)

@@ -5,6 +5,7 @@ use mathlib.Core.List.{List, [], _∷_}
 use Prim.Native.Nat.{ℕ, _+_, _*_, _-_, _≤_, _<_}
 use native.Mathlib.Omega.{arith}
 use lib.ListN.{length, length-append}
+use Rattle.checks.specs.Limits.{bufferWords}
 use Rattle.checks.specs.Answer.{taken}
 use Rattle.slicing.specs.Item.{Item}
 use Rattle.slicing.specs.Tree.{Tree, gauge, beside, stacked, gaugesOf, gaugeCount, sizeCount}
@@ -80,7 +81,7 @@ module _ (file s₀ s : List ℕ) (at part to : ℕ) (k : Filling file s₀ s at
   abbrev face : Tree
   face = k .ready .tree
 
-  long : 16_384 ≤ length s
+  long : bufferWords ≤ length s
   long = let l = k .ready .long in let same = k .length-kept in omega arith
 
   place-few : (508 ≤ to) × (to ≤ 15_644)
