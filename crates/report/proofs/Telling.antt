@@ -39,8 +39,13 @@ no-text : (t : Tree) (p : Pick) (face : Fitted) → face ≡ faceFound t p → (
 no-text t nothing face e other = ap (λ (f : Fitted). refusedText (f .number)) e
 no-text t (picked z) face e other = absurd (other (ap (λ (f : Fitted). f .number) e))
 
--- One that is, by what `render` promises.
-placed : (t : Tree) (p : Pick) (face : Fitted) (items layout old new : List ℕ) (r : ℕ) → face ≡ faceFound t p → face .number ≡ 0 → items ≡ listWords (shapes 0 t) → ((z : Item) → p ≡ picked z → layout ≡ words t (place 0 t z 0 0)) → ((l : List Item) (z : Item) → items ≡ listWords l → face .height ≡ z .m → face .width ≡ z .p → face .area ≡ z .m * z .p → Printed (facesText l z layout) old new r) → Printed (pickPrinted t p) old new r
+-- What `render` promises of the words of items and of a layout.
+abbrev pub Renders : Fitted → (items layout old new : List ℕ) (r : ℕ) → Type 0
+Renders face items layout old new r =
+    (l : List Item) (z : Item) → items ≡ listWords l → face .height ≡ z .m → face .width ≡ z .p → face .area ≡ z .m * z .p → Printed (facesText l z layout) old new r
+
+-- One that is, by that promise.
+placed : (t : Tree) (p : Pick) (face : Fitted) (items layout old new : List ℕ) (r : ℕ) → face ≡ faceFound t p → face .number ≡ 0 → items ≡ listWords (shapes 0 t) → ((z : Item) → p ≡ picked z → layout ≡ words t (place 0 t z 0 0)) → Renders face items layout old new r → Printed (pickPrinted t p) old new r
 placed t nothing face items layout old new r e zero i l render =
     let n = ap (λ (f : Fitted). f .number) e in absurd (omega arith)
 placed t (picked z) face items layout old new r e zero i l render =
@@ -52,7 +57,7 @@ module _ (face : Fitted) (count : ℕ) (items : List ℕ) (gauges : ℕ) (layout
   told-no other p t w =
       other-text (refusedText (face .number)) (pickPrinted t (smallest widest (shapes 0 t))) old new r (no-text t (smallest widest (shapes 0 t)) face (w .fitted-is) other) p
 
-  pub told-yes : face .number ≡ 0 → ((l : List Item) (z : Item) → take (2 * count) items ≡ listWords l → face .height ≡ z .m → face .width ≡ z .p → face .area ≡ z .m * z .p → Printed (facesText l z (take (5 * gauges) layout)) old new r) → (t : Tree) → Worked t face count items gauges layout → Printed (pickPrinted t (smallest widest (shapes 0 t))) old new r
+  pub told-yes : face .number ≡ 0 → Renders face (take (2 * count) items) (take (5 * gauges) layout) old new r → (t : Tree) → Worked t face count items gauges layout → Printed (pickPrinted t (smallest widest (shapes 0 t))) old new r
   told-yes zero render t w =
       placed t (smallest widest (shapes 0 t)) face (take (2 * count) items) (take (5 * gauges) layout) old new r (w .fitted-is) zero (w .listed) (w .laid) render
 

@@ -80,14 +80,16 @@ linked-run-requires c κs =
 
 slice-read-drop-tied : tie.Need-slice-read-drop-tied
 slice-read-drop-tied c =
-    let at-run = c .before .before .before .before .before .before .before .before .before .before in
+    let handed-back = c .before .before .before .before .before in
+    let at-run = handed-back .before .before .before .before .before in
     let q = at-q (at-run .before .before .before .before .before .before) in
     let long = older-moved _ _ _ _ _ (start q .pre .0) (is-first (at-first q)) _ (at-key q .get2 .ensures) _ _ _ (q-is q) (at-run .linked-run .ensures .0) .result-ends .long in
     omega arith
 
 drop-tied-requires : tie.Need-drop-tied-requires
 drop-tied-requires c κs =
-    let at-run = c .before .before .before .before .before .before .before .before .before .before .before in
+    let handed-back = c .before .before .before .before .before .before in
+    let at-run = handed-back .before .before .before .before .before in
     let q = at-q (at-run .before .before .before .before .before .before) in
     tied _ _ _ _ _ (start q .pre .0) (is-first (at-first q)) _ (at-key q .get2 .ensures) _ _ _ (q-is q) (at-run .linked-run .ensures .0) _ _ _ _ _ (start q .pre .1) (at-run .linked-run .ensures .1)
 
@@ -129,7 +131,8 @@ same-length-5 c = search needs
 returns : tie.Need-returns
 returns c =
     let at-drop = c .before .before .before .before in
-    let at-run = at-drop .before .before .before .before .before .before .before .before .before .before .before .before in
+    let handed-back = at-drop .before .before .before .before .before .before .before in
+    let at-run = handed-back .before .before .before .before .before in
     let q = at-q (at-run .before .before .before .before .before .before) in (
       older-done _ _ _ _ _ _ _ _ _ (is-first (at-first q)) (at-key q .get2 .ensures) (q-is q) (at-run .linked-run .ensures .0) _ _ _ (at-drop .drop-tied .ensures),
       tied-kept _ _ _ _ _ _ _ _ _ (is-first (at-first q)) (at-key q .get2 .ensures) (q-is q) (at-run .linked-run .ensures .0) _ _ _ (at-drop .drop-tied .ensures) (start q .pre .0) _ _ _ _ (start q .pre .1) (at-run .linked-run .ensures .1),
