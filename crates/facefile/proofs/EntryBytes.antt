@@ -10,12 +10,12 @@ use lib.Seq.{drop-drop, getD-drop, getD-take, length-take-le}
 use Rattle.slicing.specs.Item.{Item}
 use Rattle.slicing.specs.Tree.{Tree, gauge}
 use Rattle.facefile.specs.declared.walk.GaugeEntry.{GaugeEntry}
-use Rattle.facefile.specs.Format.{State}
-use Rattle.facefile.specs.inside.Kinds.{Cut, cut-beside, cut-stacked}
-use Rattle.facefile.specs.inside.Sizes.{sizesIn}
+use Rattle.entries.specs.Entry.{State}
+use Rattle.entries.specs.inside.Kinds.{Cut, cut-beside, cut-stacked}
+use Rattle.entries.specs.inside.Sizes.{sizesIn}
 use Rattle.facefile.specs.inside.Walk.{stateAt}
-use Rattle.facefile.proofs.Took.{state, Took, took-gauge, took-join}
-use Rattle.facefile.proofs.SizesIn.{from-in, in-same}
+use Rattle.entries.proofs.Took.{state, Took, took-gauge, took-join}
+use Rattle.entries.proofs.SizesIn.{from-in, in-same}
 
 -- What stands at a place of a list and after it, from what is left there.
 module _ (file : List ℕ) (at : ℕ) where

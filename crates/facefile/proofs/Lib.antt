@@ -1,15 +1,9 @@
-pub mod Took
-pub mod GoodSizes
-pub mod Stacks
 pub mod Taken
 pub mod Refused
-pub mod SizesIn
 pub mod SizeBytes
 pub mod EntryBytes
 pub mod WalkSteps
 pub mod WalkStack
-pub mod SizeChecks
-pub mod Entries
 pub mod Reading
 pub mod Seeking
 pub mod Answered
@@ -17,4 +11,3 @@ pub mod Prefix
 pub mod Written
 pub mod Example
 pub mod PartArray
-pub mod Across

@@ -12,13 +12,15 @@ use Rattle.checks.specs.Check.{Check, OnePart, AtEnd, numberOf}
 use Rattle.checks.specs.Answer.{Answer, refused, taken, next, number}
 use Rattle.checks.proofs.Answers.{number-taken, number-refused}
 use Rattle.slicing.specs.Tree.{Tree, gaugesOf, sizesOf}
-use Rattle.facefile.specs.declared.Cursor.{Cursor}
+use Rattle.entries.specs.declared.Cursor.{Cursor}
 use Rattle.facefile.specs.declared.Face.{Face}
-use Rattle.facefile.specs.declared.Step.{Step}
-use Rattle.facefile.specs.declared.Step.the-variants.{Stop, Next}
-use Rattle.facefile.specs.Format.{State, field, within, marked, header, start, entry, entries, onePart, atEnd, faceOf}
+use Rattle.entries.specs.declared.Step.{Step}
+use Rattle.entries.specs.declared.Step.the-variants.{Stop, Next}
+use Rattle.entries.specs.Entry.{State, field, within, entry, entries}
+use Rattle.facefile.specs.Format.{marked, header, start, onePart, atEnd, faceOf}
 use Rattle.facefile.specs.Summary.{refusedFace, summary}
-use Rattle.facefile.specs.inside.Tracking.{flat, Fair, Tracks, Follows, Does, Ends}
+use Rattle.entries.specs.inside.Tracking.{flat, Fair, Tracks, Follows, Does}
+use Rattle.facefile.specs.inside.Ending.{Ends}
 use Rattle.facefile.proofs.Taken.{header-taken}
 
 -- The first three bytes are `FCE` exactly where the definition's test says so.

@@ -13,11 +13,11 @@ use Rattle.facefile.specs.declared.walk.Entry.{Entry}
 use Rattle.facefile.specs.declared.walk.Entry.the-variants.{Gauge, Join}
 use Rattle.facefile.specs.Format.{faceOf}
 use Rattle.facefile.specs.Gauge.{sizeBytes, gaugeNumbered, gaugeBytes}
-use Rattle.facefile.specs.inside.Tracking.{flat}
-use Rattle.facefile.specs.inside.Sizes.{sizesIn}
+use Rattle.entries.specs.inside.Tracking.{flat}
+use Rattle.entries.specs.inside.Sizes.{sizesIn}
 use Rattle.facefile.specs.inside.Finding.{Found}
 use Rattle.facefile.specs.inside.Walk.{firstEntry, Walk, sizeBytesOf, GaugeAt, JoinAt, Finds}
-use Rattle.facefile.proofs.Stacks.{join-flat, gauges-join}
+use Rattle.entries.proofs.Stacks.{join-flat, gauges-join}
 use Rattle.facefile.proofs.SizeBytes.{Bytes, stretch-bytes}
 use Rattle.facefile.proofs.WalkSteps.{walk-start, walk-end, found-gauge, found-join}
 use Rattle.facefile.proofs.WalkStack.{walk-flat}

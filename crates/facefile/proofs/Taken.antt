@@ -14,12 +14,13 @@ use Rattle.checks.proofs.Answers.{not-both, same-taken, ask-taken, next-taken}
 use Rattle.slicing.specs.Tree.{Tree, gaugesOf, gaugeCount, sizeCount}
 use Rattle.slicing.specs.Good.{Good}
 use Rattle.slicing.proofs.Counts.{counted}
-use Rattle.facefile.specs.Format.{State, field, within, marked, header, start, entries, onePart, atEnd, faceOf}
-use Rattle.facefile.specs.inside.Tracking.{flat}
-use Rattle.facefile.specs.inside.Kinds.{Cut, cut-beside, cut-stacked}
-use Rattle.facefile.proofs.Took.{state, within-true, Took, took-gauge, took-join, Reads, reads-none, reads-more, entries-read}
-use Rattle.facefile.proofs.GoodSizes.{sizes-good}
-use Rattle.facefile.proofs.Stacks.{join-flat, gauges-join}
+use Rattle.entries.specs.Entry.{State, field, within, entries}
+use Rattle.facefile.specs.Format.{marked, header, start, onePart, atEnd, faceOf}
+use Rattle.entries.specs.inside.Tracking.{flat}
+use Rattle.entries.specs.inside.Kinds.{Cut, cut-beside, cut-stacked}
+use Rattle.entries.proofs.Took.{state, within-true, Took, took-gauge, took-join, Reads, reads-none, reads-more, entries-read}
+use Rattle.entries.proofs.GoodSizes.{sizes-good}
+use Rattle.entries.proofs.Stacks.{join-flat, gauges-join}
 
 -- What a taken header says.
 pub record Headed (s : List ℕ) : Type 0 where

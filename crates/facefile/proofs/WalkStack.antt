@@ -12,11 +12,11 @@ use Rattle.slicing.specs.Good.{Good}
 use Rattle.slicing.proofs.Depths.{depth-few}
 use Rattle.facefile.specs.declared.walk.GaugeEntry.{GaugeEntry}
 use Rattle.facefile.specs.Format.{start, faceOf}
-use Rattle.facefile.specs.inside.Sizes.{sizesIn}
-use Rattle.facefile.specs.inside.Tracking.{flat}
+use Rattle.entries.specs.inside.Sizes.{sizesIn}
+use Rattle.entries.specs.inside.Tracking.{flat}
 use Rattle.facefile.specs.inside.Walk.{firstEntry, stateAt, Walk, sizeBytesOf, GaugeAt, JoinAt}
-use Rattle.facefile.proofs.Took.{state, entries-read}
-use Rattle.facefile.proofs.Stacks.{Joins, reads-flat, sizes-join}
+use Rattle.entries.proofs.Took.{state, entries-read}
+use Rattle.entries.proofs.Stacks.{Joins, reads-flat, sizes-join}
 use Rattle.facefile.proofs.Taken.{GoodParts, Sound, start-sound, reads-sound}
 use Rattle.facefile.proofs.WalkSteps.{walk-start, walk-reads}
 

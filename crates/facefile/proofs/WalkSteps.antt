@@ -12,10 +12,11 @@ use Rattle.slicing.specs.Tree.{Tree, gauge}
 use Rattle.facefile.specs.declared.walk.GaugeEntry.{GaugeEntry}
 use Rattle.facefile.specs.declared.walk.Entry.{Entry}
 use Rattle.facefile.specs.declared.walk.Entry.the-variants.{Gauge, Join}
-use Rattle.facefile.specs.Format.{State, start, entry, entries, atEnd, faceOf, header}
-use Rattle.facefile.specs.inside.Sizes.{sizesIn}
+use Rattle.entries.specs.Entry.{State, entry, entries}
+use Rattle.facefile.specs.Format.{start, atEnd, faceOf, header}
+use Rattle.entries.specs.inside.Sizes.{sizesIn}
 use Rattle.facefile.specs.inside.Walk.{firstEntry, stateAt, Walk, sizeBytesOf, GaugeAt, JoinAt, EntryAt, Finds}
-use Rattle.facefile.proofs.Took.{state, Took, took-gauge, took-join, entry-took, Reads, reads-none, reads-more}
+use Rattle.entries.proofs.Took.{state, Took, took-gauge, took-join, entry-took, Reads, reads-none, reads-more}
 use Rattle.facefile.proofs.Taken.{header-taken, end-taken, end-read}
 use Rattle.facefile.proofs.EntryBytes.{left-at, gaugeEntryAt, gauge-read, join-read, bytes-long, bytes-sizes}
 

@@ -1,5 +1,3 @@
-pub mod Tracking
+pub mod Ending
 pub mod Finding
-pub mod Kinds
-pub mod Sizes
 pub mod Walk

@@ -3,16 +3,18 @@ ghost use mathlib.Core.Path.{_≡_};
 ghost use Prim.Native.Nat.{_≤_};
 ghost use lib.ListN.{length};
 ghost use Rattle.checks.specs.Answer.{number};
-ghost use Rattle.facefile.specs.Format.{header, entries, start, faceOf};
+ghost use Rattle.entries.specs.Entry.{entries};
+ghost use Rattle.facefile.specs.Format.{header, start, faceOf};
 ghost use Rattle.facefile.specs.Summary.{refusedFace, summary};
-ghost use Rattle.facefile.specs.inside.Tracking.{Fair, Follows, Ends};
-use crate::Cursor;
+ghost use Rattle.entries.specs.inside.Tracking.{Fair, Follows};
+ghost use Rattle.facefile.specs.inside.Ending.{Ends};
 use crate::Face;
-use crate::Step;
-use crate::entry::read_entry;
-use crate::field::field;
-use crate::field::is_within;
 use crate::walk::FIRST_ENTRY;
+use entries::Cursor;
+use entries::Step;
+use entries::entry::read_entry;
+use entries::field::field;
+use entries::is_within;
 
 // The first seven bytes: the number of the first of checks 1 to 4 that fails, or 0.
 fn header_number(file: &[u8]) -> u32

@@ -5,7 +5,7 @@ ghost use mathlib.Core.List.{List};
 ghost use lib.ListN.{length};
 ghost use Rattle.slicing.specs.Tree.{Tree};
 ghost use Rattle.facefile.specs.inside.Walk.{Walk, Finds};
-use crate::GAUGE;
+use entries::GAUGE;
 
 // Where the first entry begins.
 pub const FIRST_ENTRY: usize = 7;

@@ -65,7 +65,7 @@ pub fn place_face(
     ensures { λ r. ⌜ PlacedIn (now (file .entry)) (outline height width) r (now (output .entry)) (now (output .exit)) ⌝ }
 {
     let root = store_lists(file, scratch);
-    let list = stretch(scratch, root, facefile::BESIDE);
+    let list = stretch(scratch, root, entries::BESIDE);
     let picked = pick(scratch, list.from, list.count, list.across, height, width);
     if !picked.found {
         return refused(checks::FITS);

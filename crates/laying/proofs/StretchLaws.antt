@@ -15,7 +15,7 @@ use Rattle.slicing.specs.Shapes.{shapes}
 use Rattle.slicing.proofs.Depths.{depth-few}
 use Rattle.slicing.proofs.ShapeLaws.{shapes-ordered}
 use Rattle.slicing.proofs.TurnLaws.{turn-ordered}
-use Rattle.facefile.specs.inside.Kinds.{kindOf, across}
+use Rattle.entries.specs.inside.Kinds.{kindOf, across}
 use Rattle.stored.specs.inside.Packed.{facing, ownShapes, HasList}
 use Rattle.stored.specs.inside.Store.{Stored}
 use Rattle.stored.specs.inside.Joining.{readAs}

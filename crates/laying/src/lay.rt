@@ -25,7 +25,7 @@ pub fn item_at(scratch: &[u32], part: usize, place: usize) -> u32
     requires { ⌜ ((t : Tree) × Stored (now scratch) part t × (place < length (shapes 0 t))) ⌝ }
     ensures { λ r. ⌜ ((t : Tree) → Stored (now (scratch .entry)) part t → place < length (shapes 0 t) → r ≡ pack (shapeAt t place)) ⌝ }
 {
-    let list = stretch(scratch, part, facefile::BESIDE);
+    let list = stretch(scratch, part, entries::BESIDE);
     read_item(scratch, list.from, list.count, list.across, place)
 }
 

@@ -41,9 +41,9 @@ fn join_kind(upward: bool) -> u8
     ensures { λ r. ⌜ r ≡ joinKind upward ⌝ }
 {
     if upward {
-        return facefile::STACKED;
+        return entries::STACKED;
     }
-    facefile::BESIDE
+    entries::BESIDE
 }
 
 // The item that a part takes at a join, side by side or upward: the first of its list by height, or by width, of at

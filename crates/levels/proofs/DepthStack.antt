@@ -13,8 +13,8 @@ use Rattle.facefile.specs.declared.walk.GaugeEntry.{GaugeEntry}
 use Rattle.facefile.specs.declared.walk.Entry.{Entry}
 use Rattle.facefile.specs.declared.walk.Entry.the-variants.{Gauge, Join}
 use Rattle.facefile.specs.Format.{faceOf}
-use Rattle.facefile.specs.inside.Kinds.{Cut, cut-beside, cut-stacked}
-use Rattle.facefile.specs.inside.Sizes.{sizesIn}
+use Rattle.entries.specs.inside.Kinds.{Cut, cut-beside, cut-stacked}
+use Rattle.entries.specs.inside.Sizes.{sizesIn}
 use Rattle.facefile.specs.inside.Walk.{firstEntry, sizeBytesOf, GaugeAt, JoinAt, Finds}
 use Rattle.facefile.proofs.PartArray.{Column, column-start, column-push, column-older, column-newer, column-join}
 use Rattle.facefile.proofs.WalkSteps.{walk-end, found-gauge, found-join}

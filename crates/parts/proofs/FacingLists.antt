@@ -12,7 +12,7 @@ use Rattle.slicing.proofs.Depths.{depth-few}
 use Rattle.slicing.proofs.PartLists.{part-gauge, part-beside, part-stacked, shapes-stacked, recorded-ordered, turned-ordered, recorded-some, turned-some, recorded-low, turned-low, recorded-few, turned-few}
 use Rattle.parts.specs.inside.Part.{Suits}
 use Rattle.parts.specs.inside.Joining.{turnedIf}
-use Rattle.facefile.specs.inside.Kinds.{kindOf, across, Cut, cut-beside, cut-stacked}
+use Rattle.entries.specs.inside.Kinds.{kindOf, across, Cut, cut-beside, cut-stacked}
 
 beside-faces : (r : ℕ) (t : Tree) → turnedIf (across (kindOf t) 0x02) (partRecorded 0 r t) ≡ shapesRecorded 0 r t
 unfolding across

@@ -11,9 +11,9 @@ use Rattle.slicing.specs.Item.{Item, size}
 use Rattle.arena.specs.Arena.{level, mWord}
 use Rattle.arena.specs.inside.Chain.{put, All, Away, trues, Same}
 use Rattle.arena.specs.inside.Building.{Built, Cleared}
-use Rattle.facefile.specs.declared.Size.{Size}
-use Rattle.facefile.specs.inside.Sizes.{sizesIn, SizeIn}
-use Rattle.facefile.proofs.SizesIn.{in-length}
+use Rattle.entries.specs.declared.Size.{Size}
+use Rattle.entries.specs.inside.Sizes.{sizesIn, SizeIn}
+use Rattle.entries.proofs.SizesIn.{in-length}
 use Rattle.parts.specs.inside.Loading.{numbers, Placed, Loadable, Loaded}
 use Rattle.arena.proofs.PutLaws.{length-put, same-refl, same-trans}
 use Rattle.arena.proofs.Frames.{all-map, all-both, map-same}

@@ -7,7 +7,7 @@ use native.Mathlib.Omega.{arith}
 use lib.ListN.{length, length-append}
 use Rattle.slicing.specs.Tree.{Tree, sizesOf}
 use Rattle.slicing.specs.Recorded.{partRecorded}
-use Rattle.facefile.specs.inside.Tracking.{flat}
+use Rattle.entries.specs.inside.Tracking.{flat}
 use Rattle.arena.specs.inside.Chain.{Same}
 use Rattle.parts.specs.inside.Part.{firstHead, headOf, Parts}
 use Rattle.parts.proofs.PartLaws.{part-frame}

@@ -36,15 +36,15 @@ pub fn build(file: &[u8], levels: &[u8], arena: &mut [u32]) -> u8
                     &file[from..to],
                     &levels[size..end],
                 );
-                kinds[parts] = facefile::GAUGE;
+                kinds[parts] = entries::GAUGE;
                 parts += 1;
                 size = end;
                 at = g.next;
             }
             Entry::Join(kind, next) => {
                 let older = parts - 2;
-                let first = facefile::runs_across(kinds[older], kind);
-                let second = facefile::runs_across(kinds[older + 1], kind);
+                let first = entries::runs_across(kinds[older], kind);
+                let second = entries::runs_across(kinds[older + 1], kind);
                 join(arena, older, first, second);
                 kinds[older] = kind;
                 parts -= 1;

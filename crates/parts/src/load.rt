@@ -10,7 +10,7 @@ use arena::words::LEVEL;
 use arena::words::M;
 use arena::words::P;
 use arena::words::store;
-use facefile::size_in;
+use entries::size_in;
 
 // A byte as a word.
 fn word_of(x: u8) -> u32

@@ -13,7 +13,8 @@ use Rattle.slicing.specs.Merge.{merge, turn}
 use Rattle.slicing.specs.Shapes.{shapes}
 use Rattle.slicing.specs.Layout.{Outline, outline}
 use Rattle.slicing.specs.Fit.{smallest, noTaller, indexOf, place}
-use Rattle.facefile.specs.Format.{header, sizesAfter, sizesFrom, gaugeSizes, gaugeEntry, joinParts, joinEntry, kindEntry, entry, entries, onePart, atEnd, faceOf}
+use Rattle.entries.specs.Entry.{sizesAfter, sizesFrom, gaugeSizes, gaugeEntry, joinParts, joinEntry, kindEntry, entry, entries}
+use Rattle.facefile.specs.Format.{header, onePart, atEnd, faceOf}
 use Rattle.facefile.proofs.Example.{example}
 use Rattle.levels.specs.Levels.{timesFour, uncutLevel, largestPower, topLevel}
 use Rattle.arena.specs.Arena.{word}

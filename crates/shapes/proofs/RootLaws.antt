@@ -22,7 +22,7 @@ use Rattle.arena.specs.Lazy.{held}
 use Rattle.arena.proofs.Frames.{all-map}
 use Rattle.arena.proofs.ListLaws.{held-length}
 use Rattle.maxplus.proofs.Holds.{holds-lazy}
-use Rattle.facefile.specs.inside.Kinds.{kindOf}
+use Rattle.entries.specs.inside.Kinds.{kindOf}
 use Rattle.parts.specs.inside.Building.{Whole}
 use Rattle.parts.proofs.PartLaws.{part-length}
 use Rattle.lent.specs.Lent.{writtenOver}

@@ -16,7 +16,7 @@ use Rattle.arena.specs.inside.Turning.{Suffixes, Summable, TrueP, Renewed}
 use Rattle.arena.specs.inside.Carried.{carried}
 use Rattle.lent.specs.Lent.{writtenOver}
 use Rattle.shapes.specs.Listing.{listWords}
-use Rattle.shapes.specs.inside.Writing.{Countable, Listable, itemAt}
+use Rattle.shapes.specs.inside.Writing.{Countable, Counts, Listable, itemAt}
 use Rattle.shapes.proofs.ListWalk.{Walk, walk-start, walk-summable, walk-know, walk-more, walk-done}
 use Rattle.shapes.proofs.WordLaws.{words-length, turned-words, over-more, length-item}
 use Rattle.shapes.proofs.ItemLaws.{itemsOf, items-first, items-length, items-held}
@@ -43,13 +43,13 @@ countable a h rs out t = record { linked = t .linked; few = t .few }
 pub listed-countable : (a : List ℕ) (h : ℕ) (out : List ℕ) → (rs : List ℕ) × Listable a h rs out → (rs : List ℕ) × Countable a h rs
 listed-countable a h out (rs, t) = (rs, countable a h rs out t)
 
-pub counted-room : (a : List ℕ) (h : ℕ) (out : List ℕ) (n : ℕ) → (rs : List ℕ) × Listable a h rs out → ((rs : List ℕ) → Countable a h rs → n ≡ length rs) → 2 * n ≤ length out
+pub counted-room : (a : List ℕ) (h : ℕ) (out : List ℕ) (n : ℕ) → (rs : List ℕ) × Listable a h rs out → Counts a h n → 2 * n ≤ length out
 counted-room a h out n (rs, t) counted =
     let e = counted rs (countable a h rs out t) in
     let room = t .room in
     omega arith
 
-pub widths-start : (a : List ℕ) (h : ℕ) (out sums : List ℕ) (next n : ℕ) → (rs : List ℕ) × Listable a h rs out → ((rs : List ℕ) → Countable a h rs → n ≡ length rs) → Suffixes (adjust a h) sums → next ≡ word a h 3 → Widths a h out out sums next (2 * n)
+pub widths-start : (a : List ℕ) (h : ℕ) (out sums : List ℕ) (next n : ℕ) → (rs : List ℕ) × Listable a h rs out → Counts a h n → Suffixes (adjust a h) sums → next ≡ word a h 3 → Widths a h out out sums next (2 * n)
 widths-start a h out sums next n (rs, t) counted entered e =
     let many = counted rs (countable a h rs out t) in
     let fits = t .room in
@@ -120,7 +120,7 @@ module _ (a : List ℕ) (h : ℕ) (old out sums : List ℕ) (next at : ℕ) (w :
       })
 
 -- At the end the buffer is what all items give.
-pub widths-done : (a : List ℕ) (h : ℕ) (old out sums : List ℕ) (next at n : ℕ) → ((rs : List ℕ) → Countable a h rs → n ≡ length rs) → Widths a h old out sums next at → next ≡ 0 → (rs : List ℕ) → Listable a h rs old → (n ≡ length rs) × (out ≡ writtenOver (listWords (turn (items (held a h [] rs)))) old)
+pub widths-done : (a : List ℕ) (h : ℕ) (old out sums : List ℕ) (next at n : ℕ) → Counts a h n → Widths a h old out sums next at → next ≡ 0 → (rs : List ℕ) → Listable a h rs old → (n ≡ length rs) × (out ≡ writtenOver (listWords (turn (items (held a h [] rs)))) old)
 unfolding itemsOf carried trues turn listWords writtenOver
 widths-done a h old out sums next at n counted w e rs t =
     let s = walk-done a h next (Backward a h old out sums at) w e rs (t .linked) in (

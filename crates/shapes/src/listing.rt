@@ -38,7 +38,7 @@ pub fn write_list(file: &[u8], levels: &[u8], arena: &mut [u32], output: &mut [u
     ensures { λ count. ⌜ Wrote (now (file .entry)) (now (levels .entry)) (now (output .entry)) (now (arena .exit)) (now (output .exit)) count ⌝ }
 {
     let kind = build(file, levels, arena);
-    if kind == facefile::STACKED {
+    if kind == entries::STACKED {
         return write_by_width(arena, 0, output) as u32;
     }
     write_by_height(arena, 0, output) as u32

@@ -8,7 +8,7 @@ ghost use Rattle.slicing.specs.Merge.{turn};
 ghost use Rattle.arena.specs.Lazy.{held};
 ghost use Rattle.lent.specs.Lent.{writtenOver};
 ghost use Rattle.shapes.specs.Listing.{listWords};
-ghost use Rattle.shapes.specs.inside.Writing.{Countable, Listable, itemAt};
+ghost use Rattle.shapes.specs.inside.Writing.{Countable, Counts, Listable, itemAt};
 use arena::sums::enter;
 use arena::sums::pass;
 use arena::sums::true_p;
@@ -20,7 +20,7 @@ use arena::words::wide;
 // The number of records of a list.
 fn count_items(arena: &[u32], head: usize) -> usize
     requires { ⌜ ((rs : List ℕ) × Countable (now arena) head rs) ⌝ }
-    ensures { λ r. ⌜ ((rs : List ℕ) → Countable (now (arena .entry)) head rs → r ≡ length rs) ⌝ }
+    ensures { λ r. ⌜ Counts (now (arena .entry)) head r ⌝ }
 {
     let mut next = get(arena, head, FORWARD);
     let mut count = 0;

@@ -8,7 +8,7 @@ use native.Mathlib.Omega.{arith}
 use lib.ListN.{length, getD}
 use Rattle.slicing.specs.Item.{Item}
 use Rattle.slicing.specs.Tree.{Tree, gaugeCount}
-use Rattle.facefile.specs.inside.Kinds.{kindOf, across}
+use Rattle.entries.specs.inside.Kinds.{kindOf, across}
 use Rattle.stored.specs.inside.Packed.{ownShapes, HasList}
 use Rattle.stored.specs.inside.Store.{Entry}
 use Rattle.stored.specs.inside.Joining.{mergeOf, Joinable, Joined}

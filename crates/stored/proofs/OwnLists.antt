@@ -14,7 +14,7 @@ use Rattle.slicing.proofs.Counts.{counted, gauges-joined}
 use Rattle.slicing.proofs.ShapeLaws.{shapes-filled, shapes-short}
 use Rattle.slicing.proofs.TurnLaws.{turn-turn, turn-length, turn-out}
 use Rattle.slicing.proofs.PartLists.{shapes-low}
-use Rattle.facefile.specs.inside.Kinds.{kindOf, across, Cut, cut-beside, cut-stacked}
+use Rattle.entries.specs.inside.Kinds.{kindOf, across, Cut, cut-beside, cut-stacked}
 use Rattle.stored.specs.inside.Packed.{facing, ownShapes}
 use Rattle.stored.specs.inside.Store.{Entry, Stored}
 

@@ -8,9 +8,9 @@ use native.Mathlib.Omega.{arith}
 use lib.ListN.{length, getD, set, take, length-set}
 use lib.Seq.{getD-set-other, length-take-le, take-suc, take-all}
 use Rattle.slicing.specs.Item.{Item, size}
-use Rattle.facefile.specs.declared.Size.{Size}
-use Rattle.facefile.specs.inside.Sizes.{sizesIn, SizeIn}
-use Rattle.facefile.proofs.SizesIn.{in-length}
+use Rattle.entries.specs.declared.Size.{Size}
+use Rattle.entries.specs.inside.Sizes.{sizesIn, SizeIn}
+use Rattle.entries.proofs.SizesIn.{in-length}
 use Rattle.stored.specs.inside.Packed.{pack, HasList}
 use Rattle.stored.specs.inside.Filling.{entryAt, Added}
 use Rattle.stored.specs.inside.Adding.{Room}

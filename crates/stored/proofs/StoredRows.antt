@@ -11,7 +11,7 @@ use Rattle.slicing.specs.Tree.{Tree, gauge, beside, stacked, gaugesOf, gaugeCou
 use Rattle.slicing.proofs.Depths.{depth-few}
 use Rattle.slicing.proofs.Counts.{counted}
 use Rattle.slicing.proofs.Stored.{storedItems, stored-few}
-use Rattle.facefile.specs.inside.Tracking.{flat}
+use Rattle.entries.specs.inside.Tracking.{flat}
 use Rattle.facefile.proofs.Taken.{GoodParts}
 use Rattle.stored.specs.inside.Packed.{ownShapes, HasList}
 use Rattle.stored.specs.inside.Store.{Entry, Stored}

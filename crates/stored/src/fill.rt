@@ -5,7 +5,7 @@ ghost use lib.ListN.{length, getD};
 ghost use Rattle.checks.specs.Answer.{taken};
 ghost use Rattle.slicing.specs.Tree.{Tree, gaugeCount};
 ghost use Rattle.facefile.specs.Format.{faceOf};
-ghost use Rattle.facefile.specs.inside.Sizes.{sizesIn, Sized};
+ghost use Rattle.entries.specs.inside.Sizes.{sizesIn, Sized};
 ghost use Rattle.stored.specs.inside.Packed.{ownShapes, HasList};
 ghost use Rattle.stored.specs.inside.Filling.{entryAt, stretchOf, Added, Fillable, Filled};
 ghost use Rattle.stored.specs.inside.Adding.{Room, JoinRoom};
@@ -17,7 +17,7 @@ use crate::table::FROM;
 use crate::table::GAUGES;
 use crate::table::KIND;
 use crate::table::part_word;
-use facefile::size_in;
+use entries::size_in;
 use facefile::walk::Entry;
 use facefile::walk::FIRST_ENTRY;
 use facefile::walk::entry_at;
@@ -57,7 +57,7 @@ fn store_gauge(scratch: &mut [u32], part: usize, to: usize, bytes: &[u8], count:
     ensures { λ _. ⌜ Added (now (scratch .entry)) (now (scratch .exit)) part to 1 1 (sizesIn count (now (bytes .entry))) ⌝ }
 {
     store_sizes(scratch, to, bytes, count);
-    store_entry(scratch, part, to, count, facefile::GAUGE as u32, 1);
+    store_entry(scratch, part, to, count, entries::GAUGE as u32, 1);
 }
 
 // A kind as a byte.
@@ -76,7 +76,7 @@ pub fn stretch(scratch: &[u32], part: usize, join: u8) -> Stretch
     Stretch {
         from: part_word(scratch, part, FROM),
         count: part_word(scratch, part, COUNT),
-        across: facefile::runs_across(byte_of(part_word(scratch, part, KIND)), join),
+        across: entries::runs_across(byte_of(part_word(scratch, part, KIND)), join),
     }
 }
 

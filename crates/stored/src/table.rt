@@ -13,9 +13,9 @@ pub const KIND: usize = 2;
 pub const GAUGES: usize = 3;
 
 // The kinds of a part that are asked for.
-pub const GAUGE: usize = facefile::GAUGE as usize;
+pub const GAUGE: usize = entries::GAUGE as usize;
 
-pub const STACKED: usize = facefile::STACKED as usize;
+pub const STACKED: usize = entries::STACKED as usize;
 
 // A word as an index.
 fn wide(x: u32) -> usize

@@ -5,9 +5,10 @@ use Prim.Native.Nat.{ℕ, _-_, _≤_, _<_}
 use lib.ListN.{length, take, drop}
 use Rattle.checks.specs.Answer.{taken, next}
 use Rattle.slicing.specs.Tree.{Tree, gauge}
-use Rattle.facefile.specs.Format.{State, start, entries, atEnd, faceOf}
-use Rattle.facefile.specs.inside.Kinds.{Cut}
-use Rattle.facefile.specs.inside.Sizes.{sizesIn, Sized}
+use Rattle.entries.specs.Entry.{State, entries}
+use Rattle.facefile.specs.Format.{start, atEnd, faceOf}
+use Rattle.entries.specs.inside.Kinds.{Cut}
+use Rattle.entries.specs.inside.Sizes.{sizesIn, Sized}
 use Rattle.facefile.specs.declared.walk.GaugeEntry.{GaugeEntry}
 use Rattle.facefile.specs.declared.walk.Entry.{Entry}
 use Rattle.facefile.specs.declared.walk.Entry.the-variants.{Gauge, Join}

@@ -8,7 +8,7 @@ use Rattle.checks.specs.Answer.{taken}
 use Rattle.slicing.specs.Tree.{Tree, sizeCount}
 use Rattle.slicing.specs.Recorded.{partRecorded}
 use Rattle.facefile.specs.Format.{faceOf}
-use Rattle.facefile.specs.inside.Kinds.{kindOf}
+use Rattle.entries.specs.inside.Kinds.{kindOf}
 use Rattle.parts.specs.inside.Part.{Part}
 
 -- A taken file, with a level from 1 to 8 for each size, and room.

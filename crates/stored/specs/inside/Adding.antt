@@ -5,7 +5,7 @@ use lib.ListN.{length}
 use Rattle.checks.specs.Limits.{bufferWords}
 use Rattle.slicing.specs.Tree.{Tree, gaugeCount}
 use Rattle.slicing.specs.Good.{Good}
-use Rattle.facefile.specs.inside.Kinds.{kindOf, Cut}
+use Rattle.entries.specs.inside.Kinds.{kindOf, Cut}
 use Rattle.stored.specs.inside.Packed.{ownShapes}
 use Rattle.stored.specs.inside.Store.{Entry}
 use Rattle.stored.specs.inside.Filling.{Between}

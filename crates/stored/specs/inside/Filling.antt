@@ -8,7 +8,7 @@ use Rattle.checks.specs.Answer.{taken}
 use Rattle.slicing.specs.Item.{Item}
 use Rattle.slicing.specs.Tree.{Tree, gauge, beside, stacked, gaugeCount}
 use Rattle.facefile.specs.Format.{faceOf}
-use Rattle.facefile.specs.inside.Kinds.{across}
+use Rattle.entries.specs.inside.Kinds.{across}
 use Rattle.stored.specs.inside.Packed.{ownShapes}
 use Rattle.stored.specs.inside.Store.{Entry, Stored}
 use Rattle.stored.specs.declared.merge.Stretch.{Stretch}

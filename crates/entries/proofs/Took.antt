@@ -1,0 +1,91 @@
+-- A taken run of entries as a relation: which bytes each entry had, and what it did to the stack. Every law of taken files goes by cases on it.
+-- It holds because a chain of questions is taken only where each was answered "yes".
+use mathlib.Core.Path.{_≡_, refl, sym, subst}
+use mathlib.Core.Bool.{Bool, true, false, cond, and-eq-true-iff}
+use mathlib.Core.List.{List, [], _∷_}
+use Prim.Native.Nat.{ℕ, zero, suc, _+_, _*_, _≤_, _<_}
+use lib.ListN.{length, drop}
+use lib.Dec.{leb, ltb, eqb}
+use borrow.Author.Tests.{leb-true, ltb-true, eqb-true}
+use Rattle.checks.specs.Check.{Kind, Join}
+use Rattle.checks.specs.Answer.{refused, taken}
+use Rattle.checks.proofs.Answers.{not-both, same-taken, ask-taken, next-taken}
+use Rattle.slicing.specs.Item.{Item}
+use Rattle.slicing.specs.Tree.{Tree, gauge, beside, stacked}
+use Rattle.entries.specs.inside.Kinds.{Cut, cut-beside, cut-stacked}
+use Rattle.entries.specs.Entry.{State, skip, within, sizesFrom, gaugeTaken, gaugeSizes, gaugeEntry, joinParts, joinEntry, kindEntry, entry, entries}
+
+abbrev pub state : List ℕ → List Tree → ℕ → State
+state rest parts g = record { rest = rest; stack = parts; gauges = g }
+
+-- One entry took the first state to the second.
+pub data Took : State → State → Type 0 where
+  took-gauge : (count : ℕ) (bytes : List ℕ) (parts : List Tree) (g : ℕ) (z : List Item) → g < 64 → 1 ≤ count → count ≤ 8 → 4 * count ≤ length bytes → sizesFrom count bytes ≡ taken z → Took (state (0x01 ∷ count ∷ bytes) parts g) (state (drop (4 * count) bytes) (gauge z ∷ parts) (g + 1))
+  took-join : (kind : ℕ) (cut : Tree → Tree → Tree) (bytes : List ℕ) (a b : Tree) (parts : List Tree) (g : ℕ) → Cut kind cut → Took (state (kind ∷ bytes) (b ∷ a ∷ parts) g) (state bytes (cut a b ∷ parts) g)
+
+-- So many entries took the first state to the second.
+pub data Reads : ℕ → State → State → Type 0 where
+  reads-none : (s : State) → Reads zero s s
+  reads-more : (k : ℕ) (s t u : State) → Took s t → Reads k t u → Reads (suc k) s u
+
+pub within-true : (low high x : ℕ) → within low high x ≡ true → (low ≤ x) × (x ≤ high)
+within-true low high x e =
+    let both = and-eq-true-iff (leb low x) (leb x high) .0 e in (leb-true low x (both .0), leb-true x high (both .1))
+
+sizes-took : (count : ℕ) (bytes : List ℕ) (parts : List Tree) (g : ℕ) (s : State) → g < 64 → gaugeSizes count (state bytes parts g) ≡ taken s → Took (state (0x01 ∷ count ∷ bytes) parts g) s
+unfolding gaugeSizes
+sizes-took count bytes parts g s few e =
+    let counted = ask-taken (within 1 8 count) _ _ s e in
+    let present = ask-taken (leb (4 * count) (length bytes)) _ _ s (counted .1) in
+    let limits = within-true 1 8 count (counted .0) in
+    let sized = next-taken (sizesFrom count bytes) (gaugeTaken (skip (4 * count) (state bytes parts g))) s (present .1) in
+    subst (λ (t : State). Took (state (0x01 ∷ count ∷ bytes) parts g) t) (same-taken _ s (sized .2))
+    (took-gauge count bytes parts g (sized .0) few (limits .0) (limits .1)
+    (leb-true (4 * count) (length bytes) (present .0)) (sized .1))
+
+gauge-took : (rest : List ℕ) (parts : List Tree) (g : ℕ) (s : State) → gaugeEntry (state rest parts g) ≡ taken s → Took (state (0x01 ∷ rest) parts g) s
+unfolding gaugeEntry
+gauge-took [] parts g s e =
+    absurd (not-both _ s (ask-taken (ltb g 64) _ _ s e .1))
+gauge-took (count ∷ bytes) parts g s e =
+    let few = ask-taken (ltb g 64) _ _ s e in
+    let present = ask-taken (ltb 0 (suc (length bytes))) _ _ s (few .1) in
+    sizes-took count bytes parts g s (ltb-true g 64 (few .0)) (present .1)
+
+join-took : (kind : ℕ) (cut : Tree → Tree → Tree) (rest : List ℕ) (parts : List Tree) (g : ℕ) (s : State) → Cut kind cut → joinEntry cut (state rest parts g) ≡ taken s → Took (state (kind ∷ rest) parts g) s
+unfolding joinEntry joinParts
+join-took kind cut rest [] g s c e = absurd (not-both Join s e)
+join-took kind cut rest (b ∷ []) g s c e = absurd (not-both Join s e)
+join-took kind cut rest (b ∷ a ∷ parts) g s c e =
+    subst (λ (t : State). Took (state (kind ∷ rest) (b ∷ a ∷ parts) g) t) (same-taken _ s e)
+    (took-join kind cut rest a b parts g c)
+
+kind-took : (kind : ℕ) (rest : List ℕ) (parts : List Tree) (g : ℕ) (s : State) → kindEntry kind (state rest parts g) ≡ taken s → Took (state (kind ∷ rest) parts g) s
+unfolding kindEntry
+kind-took kind rest parts g s e = by-kind (eqb kind 0x01) (eqb kind 0x02) (eqb kind 0x03) refl refl refl e
+  where
+    by-kind : (x y z : Bool) → eqb kind 0x01 ≡ x → eqb kind 0x02 ≡ y → eqb kind 0x03 ≡ z → cond x (gaugeEntry (state rest parts g)) (cond y (joinEntry beside (state rest parts g)) (cond z (joinEntry stacked (state rest parts g)) (refused Kind))) ≡ taken s → Took (state (kind ∷ rest) parts g) s
+    by-kind true y z p q r t =
+        subst (λ (k : ℕ). Took (state (k ∷ rest) parts g) s) (sym (eqb-true kind 0x01 p)) (gauge-took rest parts g s t)
+    by-kind false true z p q r t =
+        subst (λ (k : ℕ). Took (state (k ∷ rest) parts g) s) (sym (eqb-true kind 0x02 q))
+        (join-took 0x02 beside rest parts g s cut-beside t)
+    by-kind false false true p q r t =
+        subst (λ (k : ℕ). Took (state (k ∷ rest) parts g) s) (sym (eqb-true kind 0x03 r))
+        (join-took 0x03 stacked rest parts g s cut-stacked t)
+    by-kind false false false p q r t = absurd (not-both Kind s t)
+
+pub entry-took : (rest : List ℕ) (parts : List Tree) (g : ℕ) (s : State) → entry (state rest parts g) ≡ taken s → Took (state rest parts g) s
+unfolding entry
+entry-took [] parts g s e = absurd (not-both _ s e)
+entry-took (kind ∷ bytes) parts g s e =
+    kind-took kind bytes parts g s (ask-taken (ltb 0 (suc (length bytes))) _ _ s e .1)
+
+-- A run of entries that is taken is a run of this relation.
+pub entries-read : (k : ℕ) (s t : State) → entries k s ≡ taken t → Reads k s t
+unfolding entries
+entries-read zero s t e = subst (λ (u : State). Reads zero s u) (same-taken s t e) (reads-none s)
+entries-read (suc k) s t e =
+    let first = next-taken (entry s) (entries k) t e in
+    reads-more k s (first .0) t (entry-took (s .rest) (s .stack) (s .gauges) (first .0) (first .1))
+    (entries-read k (first .0) t (first .2))
