@@ -11,7 +11,7 @@ use Rattle.slicing.specs.Recorded.{Recorded, swapRecorded, turnRecorded}
 use Rattle.arena.specs.Arena.{level, mWord, adjust}
 use Rattle.arena.specs.Lazy.{held}
 use Rattle.arena.specs.inside.Chain.{All, Away}
-use Rattle.arena.specs.inside.Turning.{Turnable, Turned}
+use Rattle.turning.specs.inside.Turning.{Turnable, Turned}
 use Rattle.arena.proofs.Cases.{eq-or-ne}
 use Rattle.arena.proofs.PutLaws.{same-refl}
 use Rattle.arena.specs.inside.Carried.{paired, carried}

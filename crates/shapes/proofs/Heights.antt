@@ -11,7 +11,7 @@ use Rattle.slicing.specs.Recorded.{items}
 use Rattle.arena.specs.Arena.{word, adjust}
 use Rattle.arena.specs.Lazy.{held}
 use Rattle.arena.specs.inside.Chain.{pUnder, after, trues}
-use Rattle.arena.specs.inside.Turning.{Suffixes, Summable, Enterable, TrueP, Renewed}
+use Rattle.arena.specs.inside.Sums.{Suffixes, Summable, Enterable, TrueP, Renewed}
 use Rattle.arena.specs.inside.Carried.{carried}
 use Rattle.lent.specs.Lent.{writtenOver}
 use Rattle.shapes.specs.Listing.{listWords}

@@ -8,7 +8,7 @@ use lib.ListN.{length}
 use Rattle.arena.specs.Arena.{word}
 use Rattle.arena.specs.Lazy.{nextWith}
 use Rattle.arena.specs.inside.Chain.{Has, Member, Chain, Linked}
-use Rattle.arena.specs.inside.Turning.{Summable}
+use Rattle.arena.specs.inside.Sums.{Summable}
 use Rattle.arena.proofs.Walking.{count, next-none, next-first, next-second, count-is, one-list}
 use Rattle.shapes.specs.inside.Writing.{Countable}
 

@@ -12,7 +12,7 @@ use Rattle.slicing.proofs.TurnLaws.{turn-length}
 use Rattle.arena.specs.Arena.{word, mWord, adjust}
 use Rattle.arena.specs.Lazy.{held}
 use Rattle.arena.specs.inside.Chain.{pUnder, after, trues}
-use Rattle.arena.specs.inside.Turning.{Suffixes, Summable, TrueP, Renewed}
+use Rattle.arena.specs.inside.Sums.{Suffixes, Summable, TrueP, Renewed}
 use Rattle.arena.specs.inside.Carried.{carried}
 use Rattle.lent.specs.Lent.{writtenOver}
 use Rattle.shapes.specs.Listing.{listWords}

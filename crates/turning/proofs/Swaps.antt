@@ -5,15 +5,16 @@ use mathlib.Core.List.{List, _∷_}
 use Prim.Native.Nat.{ℕ, _+_, _%_, _^_, _<_}
 use native.Mathlib.Omega.{arith}
 use lib.ListN.{length}
 use Rattle.arena.specs.Arena.{stride, word, level, mWord, pWord}
 use Rattle.arena.specs.inside.Chain.{Has, put, All, pUnder, after, trues, Same}
 use Rattle.arena.specs.inside.Building.{Hooked, Built, Fresh, Prepended}
-use Rattle.arena.specs.inside.Turning.{Suffixes, swapped, TakenOver, Turnable1, TrueP, Renewed}
+use Rattle.arena.specs.inside.Sums.{Suffixes, TrueP, Renewed}
+use Rattle.turning.specs.inside.Turning.{swapped, TakenOver, Turnable1}
 use Rattle.arena.proofs.PutLaws.{length-put, word-same, word-other-record, word-other-field, put-swap, same-trans}
 use Rattle.arena.proofs.Frames.{all-map, same-value, built-frame, under-frame, trues-frame}
 use Rattle.arena.proofs.Summing.{passed-kept}
 use Rattle.arena.proofs.HookLaws.{hooked-all}
 use Rattle.arena.proofs.PrependLaws.{prepended}
 
 module _ (a : List ℕ) (f : ℕ → ℕ) (r : ℕ) where
   pub swapped-long : length (swapped a f r) ≡ length a

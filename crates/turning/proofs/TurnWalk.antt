@@ -5,17 +5,18 @@ use mathlib.Core.List.{List, [], _∷_, reverseAux}
 use Prim.Native.Nat.{ℕ, _+_, _*_, _%_, _^_, _<_}
 use native.Mathlib.Omega.{arith}
 use lib.ListN.{length, getD}
 use Rattle.arena.specs.Arena.{stride, word, level, mWord, adjust}
 use Rattle.arena.specs.inside.Chain.{Has, put, All, Linked, after, trues, Same}
 use Rattle.arena.specs.inside.Building.{Cleared}
-use Rattle.arena.specs.inside.Turning.{Suffixes, Enterable, TakenOver, Turnable1, Turnable, Turned, Renewed}
+use Rattle.arena.specs.inside.Sums.{Suffixes, Enterable, Renewed}
+use Rattle.turning.specs.inside.Turning.{TakenOver, Turnable1, Turnable, Turned}
 use Rattle.arena.proofs.PutLaws.{length-put, word-other-record, word-other-field, same-trans}
 use Rattle.arena.proofs.Frames.{all-map, all-refl, all-both, map-same, same-shape, same-value, linked-frame, trues-frame}
 use Rattle.arena.proofs.ClearLaws.{cleared-first}
 use Rattle.arena.proofs.Summing.{passed-kept}
-use Rattle.arena.proofs.Swaps.{Turned1, turned-beside}
+use Rattle.turning.proofs.Swaps.{Turned1, turned-beside}
 use Rattle.arena.proofs.Walking.{count, next-none, next-first, count-is, one-list}
-use Rattle.arena.proofs.Turns.{Moved, Ready, moved-none, ready-fresh, ready-more, moved-more}
+use Rattle.turning.proofs.Turns.{Moved, Ready, moved-none, ready-fresh, ready-more, moved-more}
 
 -- What clearing the new head leaves of the list.
 module _ (a : List ℕ) (from to : ℕ) (rs b : List ℕ) (t : Turnable a from to rs) (cleared : Cleared a to b) where

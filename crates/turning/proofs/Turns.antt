@@ -5,13 +5,13 @@ use mathlib.Core.List.{List, [], _∷_, map, reverseAux}
 use Prim.Native.Nat.{ℕ, _%_, _^_, _≤_, _<_}
 use native.Mathlib.Omega.{arith}
 use lib.ListN.{length}
 use Rattle.arena.specs.Arena.{word, level, mWord, pWord}
 use Rattle.arena.specs.Lazy.{nextWith}
 use Rattle.arena.specs.inside.Chain.{All, Away, Member, Chain, after, trues, Same}
 use Rattle.arena.specs.inside.Building.{Built, Fresh}
 use Rattle.arena.proofs.PutLaws.{same-refl, same-trans}
 use Rattle.arena.proofs.Frames.{all-map, all-refl, all-both, map-same, same-shape, same-value, next-frame, chain-frame, trues-frame}
-use Rattle.arena.proofs.Swaps.{Turned1}
+use Rattle.turning.proofs.Swaps.{Turned1}
 
 -- The arena b is a with the records qs turned, one by one, to before the list ds of the head h.
 pub record Moved (a : List ℕ) (f : ℕ → ℕ) (h : ℕ) (ds qs b : List ℕ) : Type 0 where
