@@ -14,11 +14,11 @@ use Rattle.arena.specs.inside.Building.{Built, Cleared}
 use Rattle.facefile.specs.declared.Size.{Size}
 use Rattle.facefile.specs.inside.Sizes.{sizesIn, SizeIn}
 use Rattle.facefile.proofs.SizesIn.{in-length}
-use Rattle.parts.specs.inside.Loading.{numbers, Placed, Loadable, Loaded}
+use Rattle.loading.specs.inside.Loading.{numbers, Placed, Loadable, Loaded}
 use Rattle.arena.proofs.PutLaws.{length-put, same-refl, same-trans}
 use Rattle.arena.proofs.Frames.{all-map, all-both, map-same}
 use Rattle.arena.proofs.ClearLaws.{cleared-first}
-use Rattle.parts.proofs.Written.{Loaded1, loaded-beside}
+use Rattle.loading.proofs.Written.{Loaded1, loaded-beside}
 
 abbrev ms : List Item → List ℕ
 ms zs = map (λ (z : Item). z .m) zs

@@ -8,7 +8,7 @@ use lib.ListN.{length}
 use Rattle.arena.specs.Arena.{word, level, mWord, pWord}
 use Rattle.arena.specs.inside.Chain.{Has, put, All, Away, trues, Same}
 use Rattle.arena.specs.inside.Building.{Hooked, Built, Fresh, Prepended}
-use Rattle.parts.specs.inside.Loading.{written, Placed}
+use Rattle.loading.specs.inside.Loading.{written, Placed}
 use Rattle.arena.proofs.PutLaws.{length-put, word-same, word-other-record, word-other-field, put-swap, same-trans}
 use Rattle.arena.proofs.Frames.{all-map, same-value, built-frame, trues-frame}
 use Rattle.arena.proofs.HookLaws.{hooked-all}
