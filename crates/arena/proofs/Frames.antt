@@ -10,7 +10,7 @@ use lib.Dec.{ltb}
 use borrow.Author.Tests.{lt-ltb, le-ltb}
 use Rattle.arena.specs.Arena.{level, pWord, forward, adjust}
 use Rattle.arena.specs.Lazy.{nextWith, lastWith, sumFrom}
-use Rattle.arena.specs.inside.Chain.{Has, All, Ending, closed, growing, Right, LinksOf, ChainOf, LinkedOf, Chain, pUnder, after, trues, Same, Shape, Value}
+use Rattle.arena.specs.inside.Chain.{Has, All, Away, Ending, closed, growing, Right, LinksOf, MemberOf, ChainOf, LinkedOf, Chain, pUnder, after, trues, Same, Shape, Value}
 use Rattle.arena.specs.inside.Building.{Built}
 use Rattle.arena.proofs.Cases.{lt-or-ge}
 use Rattle.arena.proofs.SumLaws.{sum-agree, sum-frame}
@@ -85,21 +85,19 @@ links-frame e a b r rs high s t l =
           (next-frame a b k rs (levels-kept a b rs t)) (l .at k (omega arith));
     }
 
+-- A record of a list stands before other records where it keeps its level, has the right links and is none of them.
+pub member-before : {d e : Ending} (a b : List ℕ) (r : ℕ) {rs ss : List ℕ} → length b ≡ length a → level b r ≡ level a r → MemberOf d a r rs → LinksOf e b r ss → Away r ss → MemberOf e b r ss
+member-before a b r long same m links away =
+    let has = m .has in
+    let low = m .low in
+    let high = m .high in
+    record { some = m .some; has = omega arith; low = omega arith; high = omega arith; links = links; away = away }
+
 pub chain-of-frame : (e : Ending) (a b : List ℕ) (rs : List ℕ) → length b ≡ length a → All (Shape a b) rs → ChainOf e a rs → ChainOf e b rs
 chain-of-frame e a b [] long s c = tt
 chain-of-frame e a b (r ∷ rs) long s c =
-    let same = s .0 .level-kept in
-    let has = c .0 .has in
-    let low = c .0 .low in
-    let high = c .0 .high in (
-      record {
-        some = c .0 .some;
-        has = omega arith;
-        low = omega arith;
-        high = omega arith;
-        links = links-frame e a b r rs high (s .0) (s .1) (c .0 .links);
-        away = c .0 .away;
-      },
+    let m = c .0 in (
+      member-before a b r long (s .0 .level-kept) m (links-frame e a b r rs (m .high) (s .0) (s .1) (m .links)) (m .away),
       chain-of-frame e a b rs long (s .1) (c .1),
     )
 

@@ -6,11 +6,7 @@ pub mod HookLaws
 pub mod PrependLaws
 pub mod ClearLaws
 pub mod Summing
-pub mod LinkTurns
-pub mod Swaps
-pub mod Turns
 pub mod Walking
-pub mod TurnWalk
 pub mod ListLaws
 pub mod CarriedLaws
 pub mod HeldLaws

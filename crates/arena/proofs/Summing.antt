@@ -11,7 +11,7 @@ use borrow.Author.Tests.{lt-ltb, le-ltb}
 use Rattle.arena.specs.Arena.{word, level, pWord, adjust}
 use Rattle.arena.specs.Lazy.{sumFrom}
 use Rattle.arena.specs.inside.Chain.{pUnder, after}
-use Rattle.arena.specs.inside.Turning.{Summable, Enterable, Suffixes, TrueP, renewed, RenewedBelow, Renewed}
+use Rattle.arena.specs.inside.Sums.{Summable, Enterable, Suffixes, TrueP, renewed, RenewedBelow, Renewed}
 use Rattle.arena.proofs.Cases.{lt-or-ge, eq-or-ne}
 use Rattle.arena.proofs.SumLaws.{sum-none, sum-first, sum-agree, sum-zero}
 use Rattle.arena.proofs.Frames.{after-in, after-out}

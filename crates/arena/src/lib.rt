@@ -2,7 +2,6 @@
 pub mod empty;
 pub mod prepend;
 pub mod sums;
-pub mod turn;
 pub mod words;
 
 // "Record r is the 19 arena words from 19r."

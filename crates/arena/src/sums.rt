@@ -1,7 +1,7 @@
 // The running sums of a walk along a list: for each link the adjust of the last record passed that has it. They are held
 // as sums from a link up, so that a true p is one addition.
 ghost use Rattle.arena.specs.Arena.{adjust};
-ghost use Rattle.arena.specs.inside.Turning.{Summable, Enterable, Suffixes, TrueP, Renewed};
+ghost use Rattle.arena.specs.inside.Sums.{Summable, Enterable, Suffixes, TrueP, Renewed};
 use crate::words::ADJUST;
 use crate::words::LEVEL;
 use crate::words::P;

@@ -10,7 +10,7 @@ use borrow.Author.Tests.{lt-ltb, le-ltb}
 use Rattle.arena.specs.Arena.{stride, word, level, forward, adjust}
 use Rattle.arena.specs.Lazy.{nextWith}
 use Rattle.arena.specs.inside.Chain.{Has, put, All, Member, Linked, after, Same}
-use Rattle.arena.specs.inside.Turning.{Renewed}
+use Rattle.arena.specs.inside.Sums.{Renewed}
 use Rattle.arena.proofs.Cases.{lt-or-ge, eq-or-ne, last-or-below}
 use Rattle.arena.proofs.PutLaws.{length-put, word-same, word-other-record, word-other-field, same-put, same-refl, same-trans}
 use Rattle.arena.proofs.Frames.{next-here, next-past, all-map, same-shape, same-value, next-frame, chain-frame, trues-frame}

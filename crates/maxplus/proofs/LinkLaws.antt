@@ -8,7 +8,7 @@ use native.Mathlib.Omega.{arith}
 use lib.ListN.{length, getD, set, length-set}
 use lib.Seq.{getD-set-same, getD-set-other}
 use Rattle.arena.specs.Arena.{word, level, forward, adjust}
-use Rattle.arena.specs.inside.Turning.{Summable, Renewed}
+use Rattle.arena.specs.inside.Sums.{Summable, Renewed}
 use Rattle.arena.proofs.Cases.{eq-or-ne, lt-or-ge}
 use Rattle.arena.proofs.Summing.{Renewing, renewing-start, renewing-more, passing-done}
 use Rattle.maxplus.specs.inside.Pass.{Decides, Are, Passed}

@@ -18,7 +18,7 @@ use Rattle.maxplus.specs.declared.read_list.Item.{Item as Read}
 use Rattle.arena.specs.Arena.{word, level, mWord, adjust}
 use Rattle.arena.specs.Lazy.{lastWith, trueP, held, lazyList}
 use Rattle.arena.specs.inside.Chain.{pUnder, after}
-use Rattle.arena.specs.inside.Turning.{Summable, Enterable, Suffixes, TrueP, Renewed}
+use Rattle.arena.specs.inside.Sums.{Summable, Enterable, Suffixes, TrueP, Renewed}
 use Rattle.arena.proofs.Cases.{lt-or-ge}
 use Rattle.arena.proofs.Summing.{suffixes-agree}
 use Rattle.arena.proofs.ListLaws.{held-length}

@@ -6,7 +6,7 @@ ghost use Prim.Native.Nat.{_≤_};
 ghost use lib.ListN.{length};
 ghost use Rattle.arena.specs.Arena.{level};
 ghost use Rattle.arena.specs.inside.Chain.{Has};
-ghost use Rattle.arena.specs.inside.Turning.{Summable, Renewed};
+ghost use Rattle.arena.specs.inside.Sums.{Summable, Renewed};
 ghost use Rattle.maxplus.specs.inside.Pass.{Decides, Are, Passed};
 use arena::words::ADJUST;
 use arena::words::FORWARD;

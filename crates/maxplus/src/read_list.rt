@@ -5,7 +5,7 @@ ghost use Prim.Native.Nat.{_≤_};
 ghost use lib.ListN.{length};
 ghost use Rattle.checks.specs.Limits.{bufferWords};
 ghost use Rattle.arena.specs.Arena.{level, mWord};
-ghost use Rattle.arena.specs.inside.Turning.{Summable, TrueP};
+ghost use Rattle.arena.specs.inside.Sums.{Summable, TrueP};
 ghost use Rattle.maxplus.specs.Read.{readItem, reading};
 ghost use Rattle.maxplus.specs.inside.Pass.{refusedReading, readAt, Decides, Stands, Follows};
 use crate::Reading;

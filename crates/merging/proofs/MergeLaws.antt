@@ -12,7 +12,7 @@ use Rattle.arena.specs.Arena.{mWord, adjust}
 use Rattle.arena.specs.Lazy.{held}
 use Rattle.arena.specs.inside.Chain.{All, Away, Linked, Same, pUnder, after, trues}
 use Rattle.arena.specs.inside.Building.{Built, Cleared}
-use Rattle.arena.specs.inside.Turning.{Suffixes}
+use Rattle.arena.specs.inside.Sums.{Suffixes}
 use Rattle.arena.specs.inside.Carried.{carried}
 use Rattle.arena.proofs.Frames.{all-map, all-both, all-refl, same-shape, linked-frame, trues-frame}
 use Rattle.arena.proofs.PutLaws.{same-trans}

@@ -8,7 +8,7 @@ use lib.ListN.{length, getD}
 use Rattle.arena.specs.Arena.{level, adjust}
 use Rattle.arena.specs.Lazy.{lastWith}
 use Rattle.arena.specs.inside.Chain.{wrap, All, Away, Linked, trues, leaving, Same, Shape, Value}
-use Rattle.arena.specs.inside.Turning.{renewed, RenewedBelow}
+use Rattle.arena.specs.inside.Sums.{renewed, RenewedBelow}
 use Rattle.arena.proofs.Cases.{lt-or-ge}
 use Rattle.arena.proofs.ListLaws.{all-left, all-right, last-none, last-append, last-all, last-inside, leaving-last, trues-append, apart-from}
 use Rattle.arena.proofs.Summing.{suffixes-agree, renewed-in, renewed-out}

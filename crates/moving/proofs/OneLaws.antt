@@ -9,7 +9,7 @@ use lib.ListN.{length, getD, replicate, getD-replicate}
 use Rattle.arena.specs.Arena.{word, level, pWord, forward, adjust}
 use Rattle.arena.specs.Lazy.{nextWith, lastWith, sumFrom}
 use Rattle.arena.specs.inside.Chain.{Has, put, wrap, All, pUnder, trues}
-use Rattle.arena.specs.inside.Turning.{RenewedBelow}
+use Rattle.arena.specs.inside.Sums.{RenewedBelow}
 use Rattle.arena.proofs.Frames.{next-here}
 use Rattle.arena.proofs.ListLaws.{last-here}
 use Rattle.arena.proofs.PutLaws.{word-other-field}

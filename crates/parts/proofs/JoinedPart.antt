@@ -16,7 +16,7 @@ use Rattle.arena.proofs.Frames.{all-map}
 use Rattle.arena.proofs.PutLaws.{same-trans}
 use Rattle.stepping.specs.inside.Trio.{Roomy}
 use Rattle.merging.specs.inside.Merge.{Mergeable, Merged}
-use Rattle.parts.specs.inside.Part.{firstHead, headOf, Part, Suits}
+use Rattle.parts.specs.inside.Part.{firstHead, headOf, olderTurned, newerTurned, Part, Suits}
 use Rattle.parts.specs.inside.Copying.{Copied}
 use Rattle.parts.specs.inside.Joining.{turnedIf, Ranged, Turns, Faces, Joinable, Joined}
 use Rattle.parts.proofs.PartLaws.{away-out, part-length, part-frame, part-copied}
@@ -36,7 +36,7 @@ inside-of lo hi (r ∷ rs) h = (
   inside-of lo hi rs (λ x out. h x out .1),
 )
 
-heads-apart : (s t : Bool) (place : ℕ) → place < 63 → cond s 577 (firstHead + place) ≡ cond t 578 (firstHead + (place + 1)) → ⊥
+heads-apart : (s t : Bool) (place : ℕ) → place < 63 → cond s olderTurned (firstHead + place) ≡ cond t newerTurned (firstHead + (place + 1)) → ⊥
 heads-apart true true place low e = omega arith
 heads-apart true false place low e = omega arith
 heads-apart false true place low e = omega arith
@@ -112,7 +112,7 @@ module _ (levels a : List ℕ) (place lo mid hi : ℕ) (l k : List Recorded) (s 
   abbrev newer-head : ℕ
   newer-head = headOf (place + 1)
 
-  pub older-turns : Turns levels a older-head 577 lo mid l
+  pub older-turns : Turns levels a older-head olderTurned lo mid l
   older-turns =
       let low = g .low-place in
       record {
@@ -126,14 +126,14 @@ module _ (levels a : List ℕ) (place lo mid hi : ℕ) (l k : List Recorded) (s 
       }
 
   -- The older part faces the join.
-  module _ (b : List ℕ) (x : ℕ) (f : Faces levels a b older-head 577 lo mid l s x) where
+  module _ (b : List ℕ) (x : ℕ) (f : Faces levels a b older-head olderTurned lo mid l s x) where
     ranged-after : (low high : ℕ) → Ranged a low high → Ranged b low high
     ranged-after low high r =
         let long = r .long in
         let same = f .length-kept in
         record { long = omega arith; some = r .some; upward = r .upward; most = r .most }
 
-    pub newer-turns : Turns levels b newer-head 578 mid hi k
+    pub newer-turns : Turns levels b newer-head newerTurned mid hi k
     newer-turns =
         let low = g .low-place in
         let most = g .newer-range .most in
@@ -152,18 +152,18 @@ module _ (levels a : List ℕ) (place lo mid hi : ℕ) (l k : List Recorded) (s 
         }
 
     -- And so does the newer one.
-    module _ (c : List ℕ) (y : ℕ) (h : Faces levels b c newer-head 578 mid hi k t y) where
+    module _ (c : List ℕ) (y : ℕ) (h : Faces levels b c newer-head newerTurned mid hi k t y) where
       pub x-high : firstHead ≤ x
-      x-high = subst (λ (z : ℕ). firstHead ≤ z) (sym (f .head)) (cond-holds (λ (z : ℕ). firstHead ≤ z) s 577 older-head (omega arith) (omega arith))
+      x-high = subst (λ (z : ℕ). firstHead ≤ z) (sym (f .head)) (cond-holds (λ (z : ℕ). firstHead ≤ z) s olderTurned older-head (omega arith) (omega arith))
 
       y-high : firstHead ≤ y
-      y-high = subst (λ (z : ℕ). firstHead ≤ z) (sym (h .head)) (cond-holds (λ (z : ℕ). firstHead ≤ z) t 578 newer-head (omega arith) (omega arith))
+      y-high = subst (λ (z : ℕ). firstHead ≤ z) (sym (h .head)) (cond-holds (λ (z : ℕ). firstHead ≤ z) t newerTurned newer-head (omega arith) (omega arith))
 
-      pub x-other : (z : ℕ) → (577 ≡ z → ⊥) → (older-head ≡ z → ⊥) → x ≡ z → ⊥
-      x-other z p q e = cond-holds (λ (u : ℕ). u ≡ z → ⊥) s 577 older-head p q (sym (f .head) ∙ e)
+      pub x-other : (z : ℕ) → (olderTurned ≡ z → ⊥) → (older-head ≡ z → ⊥) → x ≡ z → ⊥
+      x-other z p q e = cond-holds (λ (u : ℕ). u ≡ z → ⊥) s olderTurned older-head p q (sym (f .head) ∙ e)
 
-      y-other : (z : ℕ) → (578 ≡ z → ⊥) → (newer-head ≡ z → ⊥) → y ≡ z → ⊥
-      y-other z p q e = cond-holds (λ (u : ℕ). u ≡ z → ⊥) t 578 newer-head p q (sym (h .head) ∙ e)
+      y-other : (z : ℕ) → (newerTurned ≡ z → ⊥) → (newer-head ≡ z → ⊥) → y ≡ z → ⊥
+      y-other z p q e = cond-holds (λ (u : ℕ). u ≡ z → ⊥) t newerTurned newer-head p q (sym (h .head) ∙ e)
 
       x-y : x ≡ y → ⊥
       x-y e = heads-apart s t place (g .low-place) (sym (f .head) ∙ e ∙ h .head)
@@ -176,7 +176,7 @@ module _ (levels a : List ℕ) (place lo mid hi : ℕ) (l k : List Recorded) (s 
           let from = g .newer-range .upward in
           part-frame levels b c x lo mid (turnedIf s l) (f .part) (h .length-kept)
           (λ z u v. h .outside z (λ e. omega arith) (λ i. let w = i .0 in omega arith))
-          (h .outside x (x-other 578 (λ e. omega arith) (λ e. omega arith)) (λ i. let w = i .1 in let most = g .newer-range .most in omega arith))
+          (h .outside x (x-other newerTurned (λ e. omega arith) (λ e. omega arith)) (λ i. let w = i .1 in let most = g .newer-range .most in omega arith))
           (λ i. let w = i .1 in omega arith)
 
       ranged-now : (low high : ℕ) → Ranged a low high → Ranged c low high
@@ -196,7 +196,7 @@ module _ (levels a : List ℕ) (place lo mid hi : ℕ) (l k : List Recorded) (s 
         root =
             merged-part levels c x y lo mid hi (turnedIf s l) (turnedIf t k) older-part (h .part) (ranged-now lo mid (g .older-range)) (ranged-now mid hi (g .newer-range)) (g .older-suits) (g .newer-suits) x-high y-high x-y d m
 
-        same-all : (z : ℕ) → 1 ≤ z → (577 ≡ z → ⊥) → (578 ≡ z → ⊥) → (older-head ≡ z → ⊥) → (newer-head ≡ z → ⊥) → ((lo ≤ z) × (z < mid) → ⊥) → ((mid ≤ z) × (z < hi) → ⊥) → Same a e z
+        same-all : (z : ℕ) → 1 ≤ z → (olderTurned ≡ z → ⊥) → (newerTurned ≡ z → ⊥) → (older-head ≡ z → ⊥) → (newer-head ≡ z → ⊥) → ((lo ≤ z) × (z < mid) → ⊥) → ((mid ≤ z) × (z < hi) → ⊥) → Same a e z
         same-all z some p q r w off-older off-newer =
             same-trans a b e z (f .outside z (λ u. p (sym u)) off-older)
             (same-trans b c e z (h .outside z (λ u. q (sym u)) off-newer)
@@ -242,20 +242,20 @@ Facing a b h spare t r =
     (levels : List ℕ) (lo hi : ℕ) (l : List Recorded) → Turns levels a h spare lo hi l → Faces levels a b h spare lo hi l t r
 
 module _ (a : List ℕ) (place : ℕ) (s t : Bool) where
-  pub join-older : Ready a place s t → (levels : List ℕ) × (lo : ℕ) × (hi : ℕ) × (l : List Recorded) × Turns levels a (headOf place) 577 lo hi l
+  pub join-older : Ready a place s t → (levels : List ℕ) × (lo : ℕ) × (hi : ℕ) × (l : List Recorded) × Turns levels a (headOf place) olderTurned lo hi l
   join-older p =
       (p .0, p .1, p .2, p .4, older-turns (p .0) a place (p .1) (p .2) (p .3) (p .4) (p .5) s t (p .6))
 
-  module _ (b : List ℕ) (x : ℕ) (f : Facing a b (headOf place) 577 s x) where
-    abbrev older-faces : (levels : List ℕ) (lo mid hi : ℕ) (l k : List Recorded) → Joinable levels a place lo mid hi l k s t → Faces levels a b (headOf place) 577 lo mid l s x
+  module _ (b : List ℕ) (x : ℕ) (f : Facing a b (headOf place) olderTurned s x) where
+    abbrev older-faces : (levels : List ℕ) (lo mid hi : ℕ) (l k : List Recorded) → Joinable levels a place lo mid hi l k s t → Faces levels a b (headOf place) olderTurned lo mid l s x
     older-faces levels lo mid hi l k g = f levels lo mid l (older-turns levels a place lo mid hi l k s t g)
 
-    pub join-newer : Ready a place s t → (levels : List ℕ) × (lo : ℕ) × (hi : ℕ) × (l : List Recorded) × Turns levels b (headOf (place + 1)) 578 lo hi l
+    pub join-newer : Ready a place s t → (levels : List ℕ) × (lo : ℕ) × (hi : ℕ) × (l : List Recorded) × Turns levels b (headOf (place + 1)) newerTurned lo hi l
     join-newer p =
         (p .0, p .2, p .3, p .5, newer-turns (p .0) a place (p .1) (p .2) (p .3) (p .4) (p .5) s t (p .6) b x (older-faces (p .0) (p .1) (p .2) (p .3) (p .4) (p .5) (p .6)))
 
-    module _ (c : List ℕ) (y : ℕ) (h : Facing b c (headOf (place + 1)) 578 t y) where
-      abbrev newer-faces : (levels : List ℕ) (lo mid hi : ℕ) (l k : List Recorded) → Joinable levels a place lo mid hi l k s t → Faces levels b c (headOf (place + 1)) 578 mid hi k t y
+    module _ (c : List ℕ) (y : ℕ) (h : Facing b c (headOf (place + 1)) newerTurned t y) where
+      abbrev newer-faces : (levels : List ℕ) (lo mid hi : ℕ) (l k : List Recorded) → Joinable levels a place lo mid hi l k s t → Faces levels b c (headOf (place + 1)) newerTurned mid hi k t y
       newer-faces levels lo mid hi l k g =
           h levels mid hi k (newer-turns levels a place lo mid hi l k s t g b x (older-faces levels lo mid hi l k g))
 

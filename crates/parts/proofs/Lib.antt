@@ -1,5 +1,3 @@
-pub mod Written
-pub mod Loads
 pub mod CopyLaws
 pub mod PartLaws
 pub mod TurnedPart

@@ -13,7 +13,7 @@ use Rattle.entries.proofs.SizesIn.{in-length}
 use Rattle.arena.specs.Arena.{level, mWord, adjust}
 use Rattle.arena.specs.Lazy.{held}
 use Rattle.arena.specs.inside.Chain.{All}
-use Rattle.parts.specs.inside.Loading.{numbers, Loaded}
+use Rattle.loading.specs.inside.Loading.{numbers, Loaded}
 use Rattle.arena.specs.inside.Carried.{paired, carried}
 use Rattle.arena.proofs.HeldLaws.{held-carried, carried-sums}
 use Rattle.parts.specs.inside.Part.{Part}

@@ -6,7 +6,7 @@ use Prim.Native.Nat.{ℕ, _+_, _-_, _≤_, _<_}
 use native.Mathlib.Omega.{arith}
 use lib.ListN.{length, getD}
 use Rattle.slicing.specs.Recorded.{Recorded}
-use Rattle.arena.specs.Arena.{stride, word, level, adjust}
+use Rattle.arena.specs.Arena.{stride, word, level, adjust, levelAt, forwardAt, adjustAt}
 use Rattle.arena.specs.Lazy.{held}
 use Rattle.arena.specs.inside.Chain.{Has, All, Away, Same}
 use Rattle.arena.specs.inside.Building.{Built}
@@ -32,11 +32,11 @@ module _ (levels a b : List ℕ) (h lo hi : ℕ) (l : List Recorded) (p : Part l
     list-same = all-map (p .list) (λ x i. same x (i .0) (i .1)) (p .inside)
 
     levels-same : (x : ℕ) → lo ≤ x → x < hi → level b x ≡ getD levels (x - 1) 0
-    levels-same x u v = same x u v .at 0 (omega arith) ∙ p .level-is x u v
+    levels-same x u v = same x u v .at levelAt (omega arith) ∙ p .level-is x u v
 
     module _ (k : ℕ) (words : (j : ℕ) → j < stride → word b k j ≡ word a h j) where
       moved-sums : (i : ℕ) → i < 8 → adjust b k i ≡ adjust a h i
-      moved-sums i few = words (11 + i) (omega arith)
+      moved-sums i few = words (adjustAt + i) (omega arith)
 
       moved-holds : held b k [] (p .list) ≡ l
       moved-holds =
@@ -48,7 +48,7 @@ module _ (levels a b : List ℕ) (h lo hi : ℕ) (l : List Recorded) (p : Part l
       moved-built has away =
           let linked = p .built .linked in
           let top = linked .top in
-          let level-same = words 0 (omega arith) in
+          let level-same = words levelAt (omega arith) in
           record {
             linked =
                 record {
@@ -57,8 +57,8 @@ module _ (levels a b : List ℕ) (h lo hi : ℕ) (l : List Recorded) (p : Part l
                   links =
                       record {
                         at = λ i less.
-                            words (3 + i) (omega arith) ∙ linked .links .at i (omega arith)
-                            ∙ sym (next-frame a b i (p .list) (all-map (p .list) (λ x s. s .at 0 (omega arith)) list-same));
+                            words (forwardAt + i) (omega arith) ∙ linked .links .at i (omega arith)
+                            ∙ sym (next-frame a b i (p .list) (all-map (p .list) (λ x s. s .at levelAt (omega arith)) list-same));
                       };
                   away = away;
                   chain = chain-frame a b (p .list) long (all-map (p .list) (λ x s. same-shape a b x s) list-same) (linked .chain);

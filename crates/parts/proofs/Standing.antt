@@ -30,7 +30,7 @@ use Rattle.facefile.proofs.PartArray.{Column, column-start, column-push, column
 use Rattle.facefile.proofs.WalkSteps.{walk-end, found-gauge, found-join}
 use Rattle.facefile.proofs.WalkStack.{walk-sizes, walk-face, join-good, join-gauges, Counted, counted-start, counted-room, counted-gauge, counted-two, counted-below, counted-join}
 use Rattle.arena.specs.inside.Chain.{Away}
-use Rattle.parts.specs.inside.Loading.{numbers, Loadable, Loaded}
+use Rattle.loading.specs.inside.Loading.{numbers, Loadable, Loaded}
 use Rattle.parts.specs.inside.Part.{firstHead, headOf, Part, Suits, Parts}
 use Rattle.parts.specs.inside.Copying.{Copied}
 use Rattle.parts.specs.inside.Joining.{turnedIf, Joinable, Joined}

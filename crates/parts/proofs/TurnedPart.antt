@@ -8,10 +8,10 @@ use native.Mathlib.Omega.{arith}
 use lib.ListN.{length, length-map}
 use Rattle.slicing.specs.Item.{size}
 use Rattle.slicing.specs.Recorded.{Recorded, swapRecorded, turnRecorded}
-use Rattle.arena.specs.Arena.{level, mWord, adjust}
+use Rattle.arena.specs.Arena.{level, mWord, adjust, levelAt}
 use Rattle.arena.specs.Lazy.{held}
 use Rattle.arena.specs.inside.Chain.{All, Away}
-use Rattle.arena.specs.inside.Turning.{Turnable, Turned}
+use Rattle.turning.specs.inside.Turning.{Turnable, Turned}
 use Rattle.arena.proofs.Cases.{eq-or-ne}
 use Rattle.arena.proofs.PutLaws.{same-refl}
 use Rattle.arena.specs.inside.Carried.{paired, carried}
@@ -59,7 +59,7 @@ part-turned levels a b h k lo hi l p high t =
       inside = all-back (λ x. (lo ≤ x) × (x < hi)) (p .list) [] (p .inside) tt;
       level-is = λ x u v.
           either-way (λ y. level b y ≡ level a y) x (p .list) (t .levels)
-          (λ away. t .outside x (λ e. omega arith) away .at 0 (omega arith))
+          (λ away. t .outside x (λ e. omega arith) away .at levelAt (omega arith))
           ∙ p .level-is x u v;
     }
 

@@ -1,4 +1,3 @@
-pub mod Loading
 pub mod Part
 pub mod Copying
 pub mod Joining

@@ -8,10 +8,10 @@ ghost use Rattle.parts.specs.inside.Building.{Buildable, Whole};
 use crate::heads::FIRST;
 use crate::heads::copy_head;
 use crate::join::join;
-use crate::load::load;
 use facefile::walk::Entry;
 use facefile::walk::FIRST_ENTRY;
 use facefile::walk::entry_at;
+use loading::load::load;
 
 // Builds the list of the whole face at record 0, each record with its lent level, and answers the kind of the face's
 // last entry. The parts that wait for their join stand on a stack: the heads of their lists, and their kinds.

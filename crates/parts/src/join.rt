@@ -5,8 +5,8 @@ ghost use Rattle.slicing.specs.Recorded.{Recorded};
 ghost use Rattle.parts.specs.inside.Joining.{Turns, Faces, Joinable, Joined};
 use crate::heads::FIRST;
 use crate::heads::copy_head;
-use arena::turn::turn;
 use merging::merge::merge;
+use turning::turn::turn;
 
 // The heads that turned parts get, above those of all places of the stack.
 const OLDER_TURNED: usize = FIRST + checks::limits::GAUGES;

@@ -2,4 +2,3 @@
 pub mod build;
 mod heads;
 mod join;
-mod load;

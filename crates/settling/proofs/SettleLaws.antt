@@ -9,7 +9,7 @@ use lib.ListN.{length, getD}
 use Rattle.arena.specs.Arena.{level, pWord}
 use Rattle.arena.specs.Lazy.{sumFrom}
 use Rattle.arena.specs.inside.Chain.{wrap, All, pUnder, after, trues, leaving, Shape, Value}
-use Rattle.arena.specs.inside.Turning.{Suffixes}
+use Rattle.arena.specs.inside.Sums.{Suffixes}
 use Rattle.arena.proofs.Cases.{lt-or-ge}
 use Rattle.arena.proofs.SumLaws.{sum-agree, sum-frame, sum-split, add-both}
 use Rattle.arena.proofs.Frames.{after-in, after-out, trues-frame}

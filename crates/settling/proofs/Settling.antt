@@ -10,7 +10,7 @@ use lib.Dec.{ltb, eqb}
 use borrow.Author.Tests.{lt-ltb, le-ltb, eq-eqb, ne-eqb}
 use Rattle.arena.specs.Arena.{word, level}
 use Rattle.arena.specs.Lazy.{nextWith, sumFrom}
-use Rattle.arena.specs.inside.Turning.{Suffixes}
+use Rattle.arena.specs.inside.Sums.{Suffixes}
 use Rattle.arena.specs.inside.Chain.{Has, wrap, All, Away, Chain, Linked, trues, leaving, Same, Shape, Value, closed}
 use Rattle.arena.proofs.Cases.{lt-or-ge}
 use Rattle.arena.proofs.ListLaws.{last-none, all-left, last-forward, apart-from}

@@ -2,7 +2,7 @@
 ghost use mathlib.Core.Path.{_≡_};
 ghost use Prim.Native.Nat.{ℕ, _≤_};
 ghost use lib.ListN.{length};
-ghost use Rattle.arena.specs.inside.Turning.{Suffixes};
+ghost use Rattle.arena.specs.inside.Sums.{Suffixes};
 ghost use Rattle.settling.specs.inside.Cached.{MakesUp};
 
 // What the p of a record of level l is raised by, for its true p to be q more: q, and what the sums that lead to it from

@@ -8,10 +8,10 @@ use lib.ListN.{length, getD}
 use lib.Seq.{sets}
 use Rattle.slicing.specs.Item.{Item}
 use Rattle.slicing.specs.Recorded.{items}
-use Rattle.arena.specs.Arena.{word, adjust}
+use Rattle.arena.specs.Arena.{word, mWord, adjust, forwardAt}
 use Rattle.arena.specs.Lazy.{held}
 use Rattle.arena.specs.inside.Chain.{pUnder, after, trues}
-use Rattle.arena.specs.inside.Turning.{Suffixes, Summable, Enterable, TrueP, Renewed}
+use Rattle.arena.specs.inside.Sums.{Suffixes, Summable, Enterable, TrueP, Renewed}
 use Rattle.arena.specs.inside.Carried.{carried}
 use Rattle.lent.specs.Lent.{writtenOver}
 use Rattle.shapes.specs.Listing.{listWords}
@@ -36,7 +36,7 @@ Heights a h old out sums next at = Walk a h next (Onward a h old out sums at)
 pub head-enterable : (a : List ℕ) (h : ℕ) (out zeros : List ℕ) → (rs : List ℕ) × Listable a h rs out → length zeros ≡ 9 → getD zeros 8 0 ≡ 0 → Enterable a h zeros
 head-enterable a h out zeros (rs, t) e none = record { has = t .linked .has; nine = e; none = none }
 
-pub heights-start : (a : List ℕ) (h : ℕ) (out sums : List ℕ) (next : ℕ) → (rs : List ℕ) × Listable a h rs out → Suffixes (adjust a h) sums → next ≡ word a h 3 → Heights a h out out sums next 0
+pub heights-start : (a : List ℕ) (h : ℕ) (out sums : List ℕ) (next : ℕ) → (rs : List ℕ) × Listable a h rs out → Suffixes (adjust a h) sums → next ≡ word a h forwardAt → Heights a h out out sums next 0
 heights-start a h out sums next (rs, t) entered e =
     walk-start a h rs next (Onward a h out out sums 0) (t .linked) (t .few) e
     (record {
@@ -61,7 +61,7 @@ module _ (a : List ℕ) (h : ℕ) (old out sums : List ℕ) (next at : ℕ) (w :
       let place = s .place in
       omega arith)
 
-  pub heights-more : (x y : ℕ) (out' sums' : List ℕ) (n : ℕ) → x ≡ word a r 1 → TrueP a r sums y → out' ≡ itemAt out at x y → Renewed a r sums sums' → n ≡ word a r 3 → Heights a h old out' sums' n (at + 2)
+  pub heights-more : (x y : ℕ) (out' sums' : List ℕ) (n : ℕ) → x ≡ mWord a r → TrueP a r sums y → out' ≡ itemAt out at x y → Renewed a r sums sums' → n ≡ word a r forwardAt → Heights a h old out' sums' n (at + 2)
   unfolding listWords
   heights-more x y out' sums' n x-is y-is out-is passed e =
       walk-more a h next (Onward a h old out sums at) w some r same n e (Onward a h old out' sums' (at + 2))

@@ -5,10 +5,10 @@ use mathlib.Core.List.{List, [], _∷_}
 use Prim.Native.Nat.{ℕ, _+_, _≤_, _<_}
 use native.Mathlib.Omega.{arith}
 use lib.ListN.{length}
-use Rattle.arena.specs.Arena.{word}
+use Rattle.arena.specs.Arena.{word, forwardAt}
 use Rattle.arena.specs.Lazy.{nextWith}
 use Rattle.arena.specs.inside.Chain.{Has, Member, Chain, Linked}
-use Rattle.arena.specs.inside.Turning.{Summable}
+use Rattle.arena.specs.inside.Sums.{Summable}
 use Rattle.arena.proofs.Walking.{count, next-none, next-first, next-second, count-is, one-list}
 use Rattle.shapes.specs.inside.Writing.{Countable}
 
@@ -22,7 +22,7 @@ pub record Walk (a : List ℕ) (h next : ℕ) (P : List ℕ → List ℕ → Typ
   pub few : length qs ≤ 512
   pub state : P rs qs
 
-pub walk-start : (a : List ℕ) (h : ℕ) (rs : List ℕ) (next : ℕ) (P : List ℕ → List ℕ → Type 0) → Linked a h rs → length rs ≤ 512 → next ≡ word a h 3 → P rs rs → Walk a h next P
+pub walk-start : (a : List ℕ) (h : ℕ) (rs : List ℕ) (next : ℕ) (P : List ℕ → List ℕ → Type 0) → Linked a h rs → length rs ≤ 512 → next ≡ word a h forwardAt → P rs rs → Walk a h next P
 walk-start a h rs next P linked few e state =
     let top = linked .top in
     record {
@@ -74,7 +74,7 @@ module _ (a : List ℕ) (h next : ℕ) (P : List ℕ → List ℕ → Type 0) (w
   pub walk-know : {C : Type 0} → ((rs qs : List ℕ) → P rs (r ∷ qs) → C) → C
   walk-know f = f (ahead .rs) (ahead .qs) (ahead .state)
 
-  module _ (n : ℕ) (e : n ≡ word a r 3) where
+  module _ (n : ℕ) (e : n ≡ word a r forwardAt) where
     pub walk-less : count 512 a n < count 512 a next
     walk-less =
         let ah = ahead in
@@ -117,7 +117,7 @@ pub record Counted (n : ℕ) (rs qs : List ℕ) : Type 0 where
 abbrev pub Counting : List ℕ → ℕ → ℕ → ℕ → Type 0
 Counting a h next n = Walk a h next (Counted n)
 
-pub counting-start : (a : List ℕ) (h next : ℕ) → (rs : List ℕ) × Countable a h rs → next ≡ word a h 3 → Counting a h next 0
+pub counting-start : (a : List ℕ) (h next : ℕ) → (rs : List ℕ) × Countable a h rs → next ≡ word a h forwardAt → Counting a h next 0
 counting-start a h next (rs, t) e =
     walk-start a h rs next (Counted 0) (t .linked) (t .few) e (record { all = omega arith; few = t .few })
 
@@ -127,7 +127,7 @@ counting-low a h next n w =
     let few = w .state .few in
     omega arith
 
-pub counting-more : (a : List ℕ) (h next n : ℕ) → Counting a h next n → (next ≡ 0 → ⊥) → (r : ℕ) → r ≡ next → (v : ℕ) → v ≡ word a r 3 → Counting a h v (n + 1)
+pub counting-more : (a : List ℕ) (h next n : ℕ) → Counting a h next n → (next ≡ 0 → ⊥) → (r : ℕ) → r ≡ next → (v : ℕ) → v ≡ word a r forwardAt → Counting a h v (n + 1)
 counting-more a h next n w some r same v e =
     walk-more a h next (Counted n) w some r same v e (Counted (n + 1))
     (λ rs qs s.

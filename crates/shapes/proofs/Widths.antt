@@ -9,10 +9,10 @@ use Rattle.slicing.specs.Item.{Item, size}
 use Rattle.slicing.specs.Recorded.{items}
 use Rattle.slicing.specs.Merge.{turn}
 use Rattle.slicing.proofs.TurnLaws.{turn-length}
-use Rattle.arena.specs.Arena.{word, mWord, adjust}
+use Rattle.arena.specs.Arena.{word, mWord, adjust, forwardAt}
 use Rattle.arena.specs.Lazy.{held}
 use Rattle.arena.specs.inside.Chain.{pUnder, after, trues}
-use Rattle.arena.specs.inside.Turning.{Suffixes, Summable, TrueP, Renewed}
+use Rattle.arena.specs.inside.Sums.{Suffixes, Summable, TrueP, Renewed}
 use Rattle.arena.specs.inside.Carried.{carried}
 use Rattle.lent.specs.Lent.{writtenOver}
 use Rattle.shapes.specs.Listing.{listWords}
@@ -49,7 +49,7 @@ counted-room a h out n (rs, t) counted =
     let room = t .room in
     omega arith
 
-pub widths-start : (a : List ℕ) (h : ℕ) (out sums : List ℕ) (next n : ℕ) → (rs : List ℕ) × Listable a h rs out → Counts a h n → Suffixes (adjust a h) sums → next ≡ word a h 3 → Widths a h out out sums next (2 * n)
+pub widths-start : (a : List ℕ) (h : ℕ) (out sums : List ℕ) (next n : ℕ) → (rs : List ℕ) × Listable a h rs out → Counts a h n → Suffixes (adjust a h) sums → next ≡ word a h forwardAt → Widths a h out out sums next (2 * n)
 widths-start a h out sums next n (rs, t) counted entered e =
     let many = counted rs (countable a h rs out t) in
     let fits = t .room in
@@ -89,7 +89,7 @@ module _ (a : List ℕ) (h : ℕ) (old out sums : List ℕ) (next at : ℕ) (w :
       omega arith
 
   -- The words left behind the record that is stored.
-  stored : (x y : ℕ) (f : ℕ → ℕ) → x ≡ pUnder a f r → y ≡ word a r 1 → (qs : List ℕ) → at ≡ 2 * length (r ∷ qs) → writtenOver (turnedWords a (after a f r) qs) (itemAt out (at - 2) x y) ≡ writtenOver (turnedWords a f (r ∷ qs)) out
+  stored : (x y : ℕ) (f : ℕ → ℕ) → x ≡ pUnder a f r → y ≡ mWord a r → (qs : List ℕ) → at ≡ 2 * length (r ∷ qs) → writtenOver (turnedWords a (after a f r) qs) (itemAt out (at - 2) x y) ≡ writtenOver (turnedWords a f (r ∷ qs)) out
   stored x y f x-is y-is qs place =
       let ws = turnedWords a (after a f r) qs in
       let many : length ws ≡ 2 * length qs = turned-length a (after a f r) qs in
@@ -102,7 +102,7 @@ module _ (a : List ℕ) (h : ℕ) (old out sums : List ℕ) (next at : ℕ) (w :
       (sym (turned-words (size (mWord a r) (pUnder a f r)) (itemsOf a (after a f r) qs)))
       ∙ ap (λ (l : List Item). writtenOver (listWords (turn l)) out) (sym (items-first a f r qs))
 
-  pub widths-more : (x y : ℕ) (out' sums' : List ℕ) (n : ℕ) → TrueP a r sums x → y ≡ word a r 1 → out' ≡ itemAt out (at - 2) x y → Renewed a r sums sums' → n ≡ word a r 3 → Widths a h old out' sums' n (at - 2)
+  pub widths-more : (x y : ℕ) (out' sums' : List ℕ) (n : ℕ) → TrueP a r sums x → y ≡ mWord a r → out' ≡ itemAt out (at - 2) x y → Renewed a r sums sums' → n ≡ word a r forwardAt → Widths a h old out' sums' n (at - 2)
   widths-more x y out' sums' n x-is y-is out-is passed e =
       walk-more a h next (Backward a h old out sums at) w some r same n e (Backward a h old out' sums' (at - 2))
       (λ rs qs s.

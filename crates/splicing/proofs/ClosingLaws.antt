@@ -14,7 +14,7 @@ use Rattle.arena.specs.inside.Chain.{Has, put, All, Away, Links, Chain, Same, V
 use Rattle.arena.proofs.Cases.{eq-or-ne}
 use Rattle.arena.proofs.ListLaws.{last-here, last-none, next-none, some-or-none, last-all, not-last}
 use Rattle.arena.proofs.PutLaws.{length-put, word-same, word-other-record, word-other-field}
-use Rattle.arena.proofs.Frames.{all-refl, next-frame, chain-some, chain-has}
+use Rattle.arena.proofs.Frames.{all-refl, next-frame, member-before, chain-some, chain-has}
 use Rattle.splicing.specs.inside.Open.{OpenLinked, EndsOf, Closed}
 
 -- The words after the links below n were closed.
@@ -93,19 +93,11 @@ module _ (a b ends : List ℕ) (w : Ended a b ends 8) where
   closed-chain [] y lasts c = tt
   closed-chain (x ∷ xs) y lasts c =
       let m = c .0 in
-      let same = level-kept x in
-      let low = m .low in
       let high = m .high in (
-        record {
-          some = m .some;
-          has = has-kept x (m .has);
-          low = omega arith;
-          high = omega arith;
-          links =
-              closed-links x xs high (m .away) (chain-some growing a xs (c .1))
-              (λ k p. lasts k (omega arith) ∙ last-here a k (y k) x xs p) (m .links);
-          away = m .away;
-        },
+        member-before a b x (w .length-kept) (level-kept x) m
+            (closed-links x xs high (m .away) (chain-some growing a xs (c .1))
+            (λ k p. lasts k (omega arith) ∙ last-here a k (y k) x xs p) (m .links))
+            (m .away),
         closed-chain xs (λ k. cond (ltb k (level a x)) x (y k)) lasts (c .1),
       )
 

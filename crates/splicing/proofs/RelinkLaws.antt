@@ -12,7 +12,7 @@ use Rattle.arena.specs.Lazy.{nextWith, lastWith}
 use Rattle.arena.specs.inside.Chain.{Has, All, Away, Chain, Linked, Same, Shape, Value, closed, growing, LinksOf, ChainOf}
 use Rattle.arena.proofs.Cases.{lt-or-ge}
 use Rattle.arena.proofs.ListLaws.{last-here, last-none, last-append, all-left, all-right, all-append, chain-right, next-front, next-back, next-none, some-or-none, last-all, last-inside, last-any, last-forward, not-last}
-use Rattle.arena.proofs.Frames.{all-map, all-refl, all-both, next-frame, same-shape, chain-frame, last-frame, chain-some, chain-has}
+use Rattle.arena.proofs.Frames.{all-map, all-refl, all-both, next-frame, same-shape, chain-frame, last-frame, member-before, chain-some, chain-has}
 use Rattle.splicing.specs.inside.Open.{OpenLinked, Relinkable, Relinked}
 use Rattle.splicing.proofs.RelinkWords.{Rewired, Ready, Replaced}
 
@@ -125,23 +125,16 @@ module _ (a : List ℕ) (h hc : ℕ) (cs front back cut sums ends : List ℕ) (n
     open-front (x ∷ xs) c away off =
         let m = c .0 in
         let same = level-kept x in
-        let low = m .low in
         let high = m .high in (
-          record {
-            some = m .some;
-            has = has-kept x (m .has);
-            low = omega arith;
-            high = omega arith;
-            links =
-                record {
-                  at = λ k p more.
-                      let next = next-kept k xs in
-                      forward-kept x k (omega arith) (away .0) (off .0 k) ∙ m .links .at k (omega arith)
-                      ∙ next-front a k xs back (omega arith)
-                      ∙ sym next;
-                };
-            away = all-left (λ y. y ≡ x → ⊥) xs back (m .away);
-          },
+          member-before a b x (w .length-kept) same m
+              (record {
+                at = λ k p more.
+                    let next = next-kept k xs in
+                    forward-kept x k (omega arith) (away .0) (off .0 k) ∙ m .links .at k (omega arith)
+                    ∙ next-front a k xs back (omega arith)
+                    ∙ sym next;
+              })
+              (all-left (λ y. y ≡ x → ⊥) xs back (m .away)),
           open-front xs (c .1) (away .1) (off .1),
         )
 
@@ -152,20 +145,11 @@ module _ (a : List ℕ) (h hc : ℕ) (cs front back cut sums ends : List ℕ) (n
         (all-left (λ x. (k : ℕ) → k < n → x ≡ getD ends k 0 → ⊥) front back off-ends)
     open-chain (x ∷ xs) y lasts c away apart =
         let m = c .0 in
-        let same = level-kept x in
-        let low = m .low in
         let high = m .high in (
-          record {
-            some = m .some;
-            has = has-kept x (m .has);
-            low = omega arith;
-            high = omega arith;
-            links =
-                open-links x xs high (away .0) (m .away) (chain-some growing a xs (c .1))
-                (λ k p. lasts k (omega arith) ∙ last-here a k (y k) x xs p) (m .links);
-            away =
-                all-append (λ z. z ≡ x → ⊥) xs front (m .away) (all-left (λ z. z ≡ x → ⊥) front back (apart .0));
-          },
+          member-before a b x (w .length-kept) (level-kept x) m
+              (open-links x xs high (away .0) (m .away) (chain-some growing a xs (c .1))
+              (λ k p. lasts k (omega arith) ∙ last-here a k (y k) x xs p) (m .links))
+              (all-append (λ z. z ≡ x → ⊥) xs front (m .away) (all-left (λ z. z ≡ x → ⊥) front back (apart .0))),
           open-chain xs (λ k. cond (ltb k (level a x)) x (y k)) lasts (c .1) (away .1) (apart .1),
         )
 

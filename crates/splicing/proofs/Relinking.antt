@@ -7,7 +7,7 @@ use native.Mathlib.Omega.{arith}
 use lib.ListN.{length, getD, set}
 use Rattle.arena.specs.Arena.{word, adjust}
 use Rattle.arena.specs.inside.Chain.{Has}
-use Rattle.arena.specs.inside.Turning.{RenewedBelow}
+use Rattle.arena.specs.inside.Sums.{RenewedBelow}
 use Rattle.arena.proofs.Summing.{Renewing, renewing-start, renewing-more, renewing-done}
 use Rattle.splicing.specs.inside.Open.{relinkOne, FrontReady, FrontMoved, lastSums, cutSums}
 use Rattle.splicing.proofs.RelinkWords.{Rewired, Ready, Replaced, rewired-none, rewired-turn, replaced-none, replaced-turn}

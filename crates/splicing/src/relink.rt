@@ -3,7 +3,7 @@ ghost use mathlib.Core.Path.{_≡_};
 ghost use Prim.Native.Nat.{_<_};
 ghost use lib.ListN.{length};
 ghost use Rattle.arena.specs.inside.Chain.{Has};
-ghost use Rattle.arena.specs.inside.Turning.{RenewedBelow};
+ghost use Rattle.arena.specs.inside.Sums.{RenewedBelow};
 ghost use Rattle.splicing.specs.inside.Open.{relinkOne, FrontReady, FrontMoved, lastSums, cutSums};
 use arena::words::ADJUST;
 use arena::words::FORWARD;

@@ -6,7 +6,7 @@ use Prim.Native.Nat.{ℕ, _+_, _^_, _≤_, _<_}
 use native.Mathlib.Omega.{arith}
 use Rattle.arena.specs.Arena.{word, level, mWord, adjust}
 use Rattle.arena.specs.inside.Chain.{Has, pUnder}
-use Rattle.arena.specs.inside.Turning.{Summable}
+use Rattle.arena.specs.inside.Sums.{Summable}
 use Rattle.arena.proofs.Summing.{suffixes-agree}
 use Rattle.searching.specs.inside.Cut.{front, behind}
 use Rattle.searching.proofs.CutLaws.{behind-shorter, all-front}

@@ -8,7 +8,7 @@ use lib.ListN.{length, getD}
 use Rattle.arena.specs.Arena.{word, level, mWord, adjust}
 use Rattle.arena.specs.Lazy.{lastWith}
 use Rattle.arena.specs.inside.Chain.{Has, All, Away, Member, Linked, pUnder, after, growing}
-use Rattle.arena.specs.inside.Turning.{Summable, Renewed}
+use Rattle.arena.specs.inside.Sums.{Summable, Renewed}
 use Rattle.arena.proofs.ListLaws.{last-all, all-append}
 use Rattle.arena.proofs.Cases.{eq-or-ne}
 use Rattle.arena.proofs.Summing.{suffixes-agree}

@@ -5,7 +5,7 @@ use Prim.Native.Nat.{ℕ, zero, suc, _+_, _<_}
 use lib.ListN.{length}
 use Rattle.arena.specs.Arena.{level, mWord, adjust, forwardAt, adjustAt, forward}
 use Rattle.arena.specs.inside.Chain.{Has, put, Linked, trues, after, Same}
-use Rattle.arena.specs.inside.Turning.{Summable, Renewed}
+use Rattle.arena.specs.inside.Sums.{Summable, Renewed}
 
 -- Link k of the head h as that of r.
 abbrev pub handed : List ℕ → ℕ → ℕ → ℕ → List ℕ

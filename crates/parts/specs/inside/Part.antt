@@ -20,9 +20,16 @@ firstHead = suc mostSizes
 abbrev pub headOf : ℕ → ℕ
 headOf k = firstHead + k
 
--- The last head: a join has two spare ones, for parts that are turned, above those of all places of the stack.
+-- A join has two spare heads, for parts that are turned, above those of all places of the stack. The first is the older part's.
+abbrev pub olderTurned : ℕ
+olderTurned = firstHead + mostGauges
+
+abbrev pub newerTurned : ℕ
+newerTurned = olderTurned + 1
+
+-- The last head.
 abbrev pub lastHead : ℕ
-lastHead = firstHead + mostGauges + 1
+lastHead = newerTurned
 
 -- The head h has the items l, in records from lo up to hi. Each record of that range, on the list or not, has its lent level.
 pub record Part (levels a : List ℕ) (h lo hi : ℕ) (l : List Recorded) : Type 0 where

@@ -4,7 +4,7 @@ use mathlib.Core.List.{List}
 use Prim.Native.Nat.{ℕ, _+_, _%_, _^_}
 use Rattle.arena.specs.Arena.{adjust}
 use Rattle.arena.specs.Lazy.{sumFrom}
-use Rattle.arena.specs.inside.Turning.{Suffixes}
+use Rattle.arena.specs.inside.Sums.{Suffixes}
 use Rattle.splicing.specs.inside.Open.{lastSums}
 
 -- The sums of the head h, and those of the last records.

@@ -4,7 +4,7 @@ use mathlib.Core.List.{List}
 use Prim.Native.Nat.{ℕ, _+_, _^_, _≤_, _<_}
 use Rattle.arena.specs.Arena.{mWord, adjust}
 use Rattle.arena.specs.inside.Chain.{All, Away}
-use Rattle.arena.specs.inside.Turning.{Suffixes}
+use Rattle.arena.specs.inside.Sums.{Suffixes}
 use Rattle.searching.specs.inside.Cut.{Searchable}
 use Rattle.splicing.specs.inside.Open.{OpenLinked, EndsOf, lastSums}
 

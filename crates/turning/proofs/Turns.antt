@@ -5,19 +5,19 @@ use mathlib.Core.List.{List, [], _∷_, map, reverseAux}
 use Prim.Native.Nat.{ℕ, _%_, _^_, _≤_, _<_}
 use native.Mathlib.Omega.{arith}
 use lib.ListN.{length}
-use Rattle.arena.specs.Arena.{word, level, mWord, pWord}
+use Rattle.arena.specs.Arena.{word, level, mWord, pWord, levelAt, mAt, forwardAt}
 use Rattle.arena.specs.Lazy.{nextWith}
 use Rattle.arena.specs.inside.Chain.{All, Away, Member, Chain, after, trues, Same}
 use Rattle.arena.specs.inside.Building.{Built, Fresh}
 use Rattle.arena.proofs.PutLaws.{same-refl, same-trans}
 use Rattle.arena.proofs.Frames.{all-map, all-refl, all-both, map-same, same-shape, same-value, next-frame, chain-frame, trues-frame}
-use Rattle.arena.proofs.Swaps.{Turned1}
+use Rattle.turning.proofs.Swaps.{Turned1}
 
 -- The arena b is a with the records qs turned, one by one, to before the list ds of the head h.
 pub record Moved (a : List ℕ) (f : ℕ → ℕ) (h : ℕ) (ds qs b : List ℕ) : Type 0 where
   pub long : length b ≡ length a
   pub outside : (x : ℕ) → (x ≡ h → ⊥) → Away x qs → Away x ds → Same a b x
-  pub kept : All (λ x. (j : ℕ) → j < 3 → word b x j ≡ word a x j) ds
+  pub kept : All (λ x. (j : ℕ) → j < forwardAt → word b x j ≡ word a x j) ds
   pub built : Built b h (reverseAux qs ds)
   pub levels : All (λ x. level b x ≡ level a x) qs
   pub m-is : map (mWord b) qs ≡ trues a f qs
@@ -71,7 +71,7 @@ module _ (a : List ℕ) (f : ℕ → ℕ) (h r : ℕ) (ds qs : List ℕ) (next :
   built-same : All (Same a b) ds
   built-same = all-both ds (one .outside) (ready .built .linked .away) (ready .cross .0)
 
-  pub ready-more : (n : ℕ) → n ≡ word a r 3 → Ready b h (r ∷ ds) qs n
+  pub ready-more : (n : ℕ) → n ≡ word a r forwardAt → Ready b h (r ∷ ds) qs n
   ready-more n k =
       let low = member .low in
       let few = ready .few in
@@ -80,7 +80,7 @@ module _ (a : List ℕ) (f : ℕ → ℕ) (h r : ℕ) (ds qs : List ℕ) (next :
         chain = chain-frame a b qs (one .long) (all-map qs (same-shape a b) left-same) (ready .chain .1);
         next-is =
             k ∙ member .links .at 0 (omega arith)
-            ∙ sym (next-frame a b 0 qs (all-map qs (λ x (s : Same a b x). s .at 0 (omega arith)) left-same));
+            ∙ sym (next-frame a b 0 qs (all-map qs (λ x (s : Same a b x). s .at levelAt (omega arith)) left-same));
         few = omega arith;
         apart = ready .apart .1;
         cross =
@@ -97,12 +97,12 @@ module _ (a : List ℕ) (f : ℕ → ℕ) (h r : ℕ) (ds qs : List ℕ) (next :
             λ x p q v. same-trans a b c x (one .outside x p (λ k. q .0 (sym k))) (t .outside x p (q .1) (q .0, v));
         kept =
             all-both ds
-            (λ x (p : (j : ℕ) → j < 3 → word c x j ≡ word b x j) (q : Same a b x) j v. p j v ∙ q .at j (omega arith))
+            (λ x (p : (j : ℕ) → j < forwardAt → word c x j ≡ word b x j) (q : Same a b x) j v. p j v ∙ q .at j (omega arith))
             (t .kept .1) built-same;
         built = t .built;
         levels = (
           t .kept .0 0 (omega arith) ∙ one .level-kept,
-          all-both qs (λ x (p : level c x ≡ level b x) (q : Same a b x). p ∙ q .at 0 (omega arith)) (t .levels)
+          all-both qs (λ x (p : level c x ≡ level b x) (q : Same a b x). p ∙ q .at levelAt (omega arith)) (t .levels)
               left-same,
         );
         m-is =
@@ -111,11 +111,11 @@ module _ (a : List ℕ) (f : ℕ → ℕ) (h r : ℕ) (ds qs : List ℕ) (next :
         p-is =
             ap₂ _∷_ (t .kept .0 2 (omega arith) ∙ one .p-is)
             (t .p-is
-            ∙ map-same (mWord b) (mWord a) qs (all-map qs (λ x (s : Same a b x). s .at 1 (omega arith)) left-same));
+            ∙ map-same (mWord b) (mWord a) qs (all-map qs (λ x (s : Same a b x). s .at mAt (omega arith)) left-same));
         true-p =
             t .true-p
             ∙ ap₂ reverseAux
             (map-same (λ x. mWord b x % 2 ^ 32) (λ x. mWord a x % 2 ^ 32) qs
-            (all-map qs (λ x (s : Same a b x). ap (λ (n : ℕ). n % 2 ^ 32) (s .at 1 (omega arith))) left-same))
+            (all-map qs (λ x (s : Same a b x). ap (λ (n : ℕ). n % 2 ^ 32) (s .at mAt (omega arith))) left-same))
             (one .true-p);
       }

@@ -2,7 +2,7 @@
 ghost use mathlib.Core.Path.{_≡_};
 ghost use Prim.Native.Nat.{_≤_, _<_};
 ghost use Rattle.arena.specs.inside.Building.{Hookable};
-ghost use Rattle.parts.specs.inside.Loading.{Placed, Loadable, Loaded};
+ghost use Rattle.loading.specs.inside.Loading.{Placed, Loadable, Loaded};
 use arena::empty::clear_head;
 use arena::prepend::prepend;
 use arena::words::FORWARD;

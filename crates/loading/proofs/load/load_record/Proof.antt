@@ -1,9 +1,9 @@
--- `parts::load::load_record` meets its contract.
+-- `loading::load::load_record` meets its contract.
 -- Its first three stores are those of `written`, in the same order, and the links are those that `prepend` puts.
 use borrow.Author.Needs.{needs}
-use Rattle.parts.proofs.Written.{stored-level, stored-loaded}
-use Rattle.parts.proofs.load.load_record.Statement.{statement}
-use Rattle.parts.proofs.load.load_record.Tie as tie
+use Rattle.loading.proofs.Written.{stored-level, stored-loaded}
+use Rattle.loading.proofs.load.load_record.Statement.{statement}
+use Rattle.loading.proofs.load.load_record.Tie as tie
 
 store-requires : tie.Need-store-requires
 store-requires c κs = search needs

@@ -8,17 +8,17 @@ use native.Mathlib.Omega.{arith}
 use lib.ListN.{length, getD, drop, drop-of-length-le}
 use lib.Seq.{drop-cons, drop-length}
 use Rattle.slicing.specs.Item.{Item, size}
-use Rattle.arena.specs.Arena.{level, mWord}
+use Rattle.arena.specs.Arena.{level, mWord, levelAt, mAt, forwardAt}
 use Rattle.arena.specs.inside.Chain.{put, All, Away, trues, Same}
 use Rattle.arena.specs.inside.Building.{Built, Cleared}
 use Rattle.entries.specs.declared.Size.{Size}
 use Rattle.entries.specs.inside.Sizes.{sizesIn, SizeIn}
 use Rattle.entries.proofs.SizesIn.{in-length}
-use Rattle.parts.specs.inside.Loading.{numbers, Placed, Loadable, Loaded}
+use Rattle.loading.specs.inside.Loading.{numbers, Placed, Loadable, Loaded}
 use Rattle.arena.proofs.PutLaws.{length-put, same-refl, same-trans}
 use Rattle.arena.proofs.Frames.{all-map, all-both, map-same}
 use Rattle.arena.proofs.ClearLaws.{cleared-first}
-use Rattle.parts.proofs.Written.{Loaded1, loaded-beside}
+use Rattle.loading.proofs.Written.{Loaded1, loaded-beside}
 
 abbrev ms : List Item → List ℕ
 ms zs = map (λ (z : Item). z .m) zs
@@ -55,7 +55,7 @@ pub record Loading (a : List ℕ) (head first : ℕ) (sizes levels b : List ℕ)
   pub inside : i ≤ length levels
   pub can : Loadable b head first sizes levels
   pub long : length b ≡ length a
-  pub filled : Filled a head first sizes levels (put b head 3 last) i
+  pub filled : Filled a head first sizes levels (put b head forwardAt last) i
 
 loadable-kept : (a b : List ℕ) (head first : ℕ) (sizes levels : List ℕ) → length b ≡ length a → Loadable a head first sizes levels → Loadable b head first sizes levels
 loadable-kept a b head first sizes levels long l =
@@ -115,10 +115,10 @@ module _ (a : List ℕ) (head first : ℕ) (sizes levels b : List ℕ) (last k :
 
     -- The arenas before and after, with the head's first forward stored.
     abbrev d : List ℕ
-    d = put b head 3 last
+    d = put b head forwardAt last
 
     abbrev e : List ℕ
-    e = put c head 3 (first + k)
+    e = put c head forwardAt (first + k)
 
     -- The sizes of all records.
     abbrev all : List Item
@@ -155,13 +155,13 @@ module _ (a : List ℕ) (head first : ℕ) (sizes levels b : List ℕ) (last k :
           level-is =
               rw (numbers-step first k (length levels) less)
               (ap₂ _∷_ (one .level-is ∙ v-is)
-              (map-same (level e) (level d) rest (all-map rest (λ x (s : Same d e x). s .at 0 (omega arith)) rest-same)
+              (map-same (level e) (level d) rest (all-map rest (λ x (s : Same d e x). s .at levelAt (omega arith)) rest-same)
               ∙ t .filled .level-is)
               ∙ sym (rest-step levels k 0 less));
           m-is =
               rw (numbers-step first k (length levels) less, sizes-step)
               (ap₂ _∷_ (one .m-is)
-              (map-same (mWord e) (mWord d) rest (all-map rest (λ x (s : Same d e x). s .at 1 (omega arith)) rest-same)
+              (map-same (mWord e) (mWord d) rest (all-map rest (λ x (s : Same d e x). s .at mAt (omega arith)) rest-same)
               ∙ t .filled .m-is));
           true-p =
               rw (numbers-step first k (length levels) less, sizes-step)
@@ -172,8 +172,8 @@ module _ (a : List ℕ) (head first : ℕ) (sizes levels b : List ℕ) (last k :
     loading-one =
         let inside = less in
         let stored = one .long in
-        let before = length-put b head 3 last in
-        let after = length-put c head 3 (first + k) in
+        let before = length-put b head forwardAt last in
+        let after = length-put c head forwardAt (first + k) in
         let long : length c ≡ length b = omega arith in
         record {
           inside = omega arith;
@@ -188,17 +188,17 @@ module _ (a : List ℕ) (head first : ℕ) (sizes levels b : List ℕ) (last i :
       let back : i ≡ i - 1 + 1 = omega arith in
       loading-one a head first sizes levels b last (i - 1) (subst (Loading a head first sizes levels b last) back t) v z c v-is here placed
 
-pub loading-done : (a : List ℕ) (head first : ℕ) (sizes levels b d : List ℕ) (last i : ℕ) (c : List ℕ) → Cleared a head b → Loading b head first sizes levels d last i → i ≤ 0 → c ≡ put d head 3 last → Loaded a head first sizes levels c
+pub loading-done : (a : List ℕ) (head first : ℕ) (sizes levels b d : List ℕ) (last i : ℕ) (c : List ℕ) → Cleared a head b → Loading b head first sizes levels d last i → i ≤ 0 → c ≡ put d head forwardAt last → Loaded a head first sizes levels c
 loading-done a head first sizes levels b d last i c cleared t none stored =
     let start : i ≡ 0 = omega arith in
-    all (subst (λ (g : List ℕ). Filled b head first sizes levels g 0) (sym stored) (subst (Filled b head first sizes levels (put d head 3 last)) start (t .filled)))
+    all (subst (λ (g : List ℕ). Filled b head first sizes levels g 0) (sym stored) (subst (Filled b head first sizes levels (put d head forwardAt last)) start (t .filled)))
   where
     all : Filled b head first sizes levels c 0 → Loaded a head first sizes levels c
     all s =
         let e : first + 0 ≡ first = omega arith in
         let f : length levels - 0 ≡ length levels = omega arith in
         record {
-          long = ap length stored ∙ length-put d head 3 last ∙ t .long ∙ cleared .long;
+          long = ap length stored ∙ length-put d head forwardAt last ∙ t .long ∙ cleared .long;
           outside =
               λ x p q. same-trans a b c x (cleared .outside x p) (s .outside x p (rw (e, f) q));
           built = rw (e, f) at (s .built);

@@ -1,9 +1,9 @@
--- `arena::turn::turn_record` meets its contract.
+-- `turning::turn::turn_record` meets its contract.
 -- Its first two stores are those of `swapped`, in the same order, and the links and the sums are those that `turn_links` leaves.
 use borrow.Author.Needs.{needs}
-use Rattle.arena.proofs.Swaps.{stored-can, stored-hooked, stored-passed}
-use Rattle.arena.proofs.turn.turn_record.Statement.{statement}
-use Rattle.arena.proofs.turn.turn_record.Tie as tie
+use Rattle.turning.proofs.Swaps.{stored-can, stored-hooked, stored-passed}
+use Rattle.turning.proofs.turn.turn_record.Statement.{statement}
+use Rattle.turning.proofs.turn.turn_record.Tie as tie
 
 get-requires : tie.Need-get-requires
 get-requires c κs = search needs

@@ -5,7 +5,7 @@ use Prim.Native.Nat.{ℕ, zero, suc, _+_, _*_, _≤_, _<_}
 use lib.ListN.{length, getD}
 use Rattle.slicing.specs.Item.{Item}
 use Rattle.entries.specs.inside.Sizes.{sizesIn, Sized}
-use Rattle.arena.specs.Arena.{stride, level, mWord}
+use Rattle.arena.specs.Arena.{stride, level, mWord, levelAt, mAt, pAt, forwardAt}
 use Rattle.arena.specs.inside.Chain.{Has, put, Away, trues, Same}
 use Rattle.arena.specs.inside.Building.{Hooked, Built}
 
@@ -16,11 +16,11 @@ numbers r (suc n) = r ∷ numbers (suc r) n
 
 -- Record r with a level, m and p.
 unfoldable pub written : List ℕ → ℕ → ℕ → ℕ → ℕ → List ℕ
-written a r l m p = put (put (put a r 0 l) r 1 m) r 2 p
+written a r l m p = put (put (put a r levelAt l) r mAt m) r pAt p
 
 -- The arena b is a with record r, so written, before the list of the head h. The head's first forward stands beside the arena: it is `last` at a, and r at b.
 abbrev pub Placed : List ℕ → ℕ → ℕ → ℕ → ℕ → ℕ → ℕ → List ℕ → Type 0
-Placed a h r last l m p b = Hooked 1 l (put (written a r l m p) r 3 last) h r b
+Placed a h r last l m p b = Hooked 1 l (put (written a r l m p) r forwardAt last) h r b
 
 -- The arena has the head and a record for each level, and there are as many sizes.
 pub record Loadable (a : List ℕ) (head first : ℕ) (sizes levels : List ℕ) : Type 0 where

@@ -1,11 +1,11 @@
--- `parts::load::load` meets its contract.
+-- `loading::load::load` meets its contract.
 -- The loop keeps `Loading`, that the sizes from i on are the list of the head; the measure is i.
 use borrow.Author.Needs.{needs}
 use Prim.Native.Nat.{_-_}
 use native.Mathlib.Omega.{arith}
-use Rattle.parts.proofs.Loads.{Loading, loading-start, loading-low, loading-high, loading-more, loading-done}
-use Rattle.parts.proofs.load.load.Statement.{statement}
-use Rattle.parts.proofs.load.load.Tie as tie
+use Rattle.loading.proofs.Loads.{Loading, loading-start, loading-low, loading-high, loading-more, loading-done}
+use Rattle.loading.proofs.load.load.Statement.{statement}
+use Rattle.loading.proofs.load.load.Tie as tie
 
 abbrev Inv-loop : tie.InvT-loop
 Inv-loop arena₀ head first sizes levels last₀ i₀ arena last i = Loading arena₀ head first sizes levels arena last i

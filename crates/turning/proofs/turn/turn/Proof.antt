@@ -1,17 +1,18 @@
--- `arena::turn::turn` meets its contract.
+-- `turning::turn::turn` meets its contract.
 -- The loop keeps `Turning`, that all records are turned if those left are; the measure is their number, counted along the first link.
 use borrow.Author.Needs.{needs}
+use Rattle.arena.specs.Arena.{forwardAt}
 use Rattle.arena.specs.inside.Chain.{put}
 use Rattle.arena.proofs.Walking.{count}
-use Rattle.arena.proofs.TurnWalk.{Turning, cleared-enterable, turning-start, turning-head, turning-has, turning-can, turning-less, turning-more, turning-done}
-use Rattle.arena.proofs.turn.turn.Statement.{statement}
-use Rattle.arena.proofs.turn.turn.Tie as tie
+use Rattle.turning.proofs.TurnWalk.{Turning, cleared-enterable, turning-start, turning-head, turning-has, turning-can, turning-less, turning-more, turning-done}
+use Rattle.turning.proofs.turn.turn.Statement.{statement}
+use Rattle.turning.proofs.turn.turn.Tie as tie
 
 abbrev Inv-loop : tie.InvT-loop
 Inv-loop arena₀ from to sums₀ next₀ last₀ arena sums next last = Turning arena₀ from to arena last sums next
 
 abbrev μ-loop : tie.MeasureT-loop
-μ-loop arena₀ from to sums₀ next₀ last₀ arena sums next last = count 512 (put arena to 3 last) next
+μ-loop arena₀ from to sums₀ next₀ last₀ arena sums next last = count 512 (put arena to forwardAt last) next
 
 clear-head-requires : tie.Need-clear-head-requires Inv-loop μ-loop
 clear-head-requires c κs = search needs

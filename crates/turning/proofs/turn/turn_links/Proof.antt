@@ -1,10 +1,10 @@
--- `arena::turn::turn_links` meets its contract.
+-- `turning::turn::turn_links` meets its contract.
 -- The loop keeps `LinkTurning`, that the links from l up are put before the list and the sums from l up are renewed; the measure is l.
 use mathlib.Core.Path.{refl}
 use borrow.Author.Needs.{needs}
-use Rattle.arena.proofs.LinkTurns.{LinkTurning, links-start, links-more, links-done}
-use Rattle.arena.proofs.turn.turn_links.Statement.{statement}
-use Rattle.arena.proofs.turn.turn_links.Tie as tie
+use Rattle.turning.proofs.LinkTurns.{LinkTurning, links-start, links-more, links-done}
+use Rattle.turning.proofs.turn.turn_links.Statement.{statement}
+use Rattle.turning.proofs.turn.turn_links.Tie as tie
 
 abbrev Inv-loop : tie.InvT-loop
 Inv-loop arena₀ to r sums₀ l₀ arena sums l = LinkTurning arena₀ to r sums₀ arena sums l

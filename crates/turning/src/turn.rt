@@ -1,22 +1,22 @@
 // Turning a list: m and p change places and the order reverses.
 ghost use mathlib.Core.List.{List};
 ghost use Prim.Native.Nat.{ℕ};
 ghost use Rattle.arena.specs.Arena.{level};
-ghost use Rattle.arena.specs.inside.Chain.{after};
 ghost use Rattle.arena.specs.inside.Building.{Hooked};
-ghost use Rattle.arena.specs.inside.Turning.{Suffixes, TakenOver, Turnable1, Turnable, Turned, Renewed};
-use crate::empty::clear_head;
-use crate::prepend::hook;
-use crate::sums::enter;
-use crate::sums::true_p;
-use crate::words::ADJUST;
-use crate::words::FORWARD;
-use crate::words::LEVEL;
-use crate::words::M;
-use crate::words::P;
-use crate::words::get;
-use crate::words::store;
-use crate::words::wide;
+ghost use Rattle.arena.specs.inside.Sums.{Suffixes, Renewed};
+ghost use Rattle.turning.specs.inside.Turning.{TakenOver, Turnable1, Turnable, Turned};
+use arena::empty::clear_head;
+use arena::prepend::hook;
+use arena::sums::enter;
+use arena::sums::true_p;
+use arena::words::ADJUST;
+use arena::words::FORWARD;
+use arena::words::LEVEL;
+use arena::words::M;
+use arena::words::P;
+use arena::words::get;
+use arena::words::store;
+use arena::words::wide;
 
 // Renews the sums by a record's adjusts, as `pass` does, and puts its links from 1 up before the list of a head.
 fn turn_links(arena: &mut [u32], to: usize, r: usize, sums: &mut [u32])

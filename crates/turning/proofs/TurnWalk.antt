@@ -5,17 +5,18 @@ use mathlib.Core.List.{List, [], _∷_, reverseAux}
 use Prim.Native.Nat.{ℕ, _+_, _*_, _%_, _^_, _<_}
 use native.Mathlib.Omega.{arith}
 use lib.ListN.{length, getD}
-use Rattle.arena.specs.Arena.{stride, word, level, mWord, adjust}
+use Rattle.arena.specs.Arena.{stride, word, level, mWord, adjust, levelAt, mAt, forwardAt, adjustAt}
 use Rattle.arena.specs.inside.Chain.{Has, put, All, Linked, after, trues, Same}
 use Rattle.arena.specs.inside.Building.{Cleared}
-use Rattle.arena.specs.inside.Turning.{Suffixes, Enterable, TakenOver, Turnable1, Turnable, Turned, Renewed}
+use Rattle.arena.specs.inside.Sums.{Suffixes, Enterable, Renewed}
+use Rattle.turning.specs.inside.Turning.{TakenOver, Turnable1, Turnable, Turned}
 use Rattle.arena.proofs.PutLaws.{length-put, word-other-record, word-other-field, same-trans}
 use Rattle.arena.proofs.Frames.{all-map, all-refl, all-both, map-same, same-shape, same-value, linked-frame, trues-frame}
 use Rattle.arena.proofs.ClearLaws.{cleared-first}
 use Rattle.arena.proofs.Summing.{passed-kept}
-use Rattle.arena.proofs.Swaps.{Turned1, turned-beside}
+use Rattle.turning.proofs.Swaps.{Turned1, turned-beside}
 use Rattle.arena.proofs.Walking.{count, next-none, next-first, count-is, one-list}
-use Rattle.arena.proofs.Turns.{Moved, Ready, moved-none, ready-fresh, ready-more, moved-more}
+use Rattle.turning.proofs.Turns.{Moved, Ready, moved-none, ready-fresh, ready-more, moved-more}
 
 -- What clearing the new head leaves of the list.
 module _ (a : List ℕ) (from to : ℕ) (rs b : List ℕ) (t : Turnable a from to rs) (cleared : Cleared a to b) where
@@ -39,14 +40,14 @@ pub record Turning (a : List ℕ) (from to : ℕ) (b : List ℕ) (last : ℕ) (s
   pub linked : Linked a from rs
   pub ds : List ℕ
   pub qs : List ℕ
-  pub ready : Ready (put b to 3 last) to ds qs next
+  pub ready : Ready (put b to forwardAt last) to ds qs next
   pub f : ℕ → ℕ
   pub suffixes : Suffixes f sums
-  pub rest : (c : List ℕ) → Moved (put b to 3 last) f to ds qs c → Moved a (adjust a from) to [] rs c
+  pub rest : (c : List ℕ) → Moved (put b to forwardAt last) f to ds qs c → Moved a (adjust a from) to [] rs c
   pub long : length b ≡ length a
   pub fits : next < 4_294_967_296
 
-pub turning-start : (a : List ℕ) (from to : ℕ) (b sums : List ℕ) (next : ℕ) → (rs : List ℕ) × Turnable a from to rs → Cleared a to b → Suffixes (adjust b from) sums → next ≡ word b from 3 → next < 4_294_967_296 → Turning b from to b 0 sums next
+pub turning-start : (a : List ℕ) (from to : ℕ) (b sums : List ℕ) (next : ℕ) → (rs : List ℕ) × Turnable a from to rs → Cleared a to b → Suffixes (adjust b from) sums → next ≡ word b from forwardAt → next < 4_294_967_296 → Turning b from to b 0 sums next
 turning-start a from to b sums next (rs, t) cleared entered e fits =
     let linked = linked-cleared a from to rs b t cleared in
     let top = linked .top in
@@ -87,38 +88,38 @@ record Left (a : List ℕ) (from to : ℕ) (d sums : List ℕ) (next : ℕ) : Ty
 module _ (a : List ℕ) (from to : ℕ) (b : List ℕ) (last : ℕ) (sums : List ℕ) (next : ℕ) (t : Turning a from to b last sums next) where
   pub turning-head : Has b to
   turning-head =
-      let long = length-put b to 3 last in
+      let long = length-put b to forwardAt last in
       let has = t .ready .built .linked .has in
       omega arith
 
   module _ (some : next ≡ 0 → ⊥) where
-    left : Left a from to (put b to 3 last) sums next
+    left : Left a from to (put b to forwardAt last) sums next
     left = first (t .qs) (t .ready) (t .rest)
       where
-        first : (qs : List ℕ) → Ready (put b to 3 last) to (t .ds) qs next → ((c : List ℕ) → Moved (put b to 3 last) (t .f) to (t .ds) qs c → Moved a (adjust a from) to [] (t .rs) c) → Left a from to (put b to 3 last) sums next
-        first [] ready rest = absurd (some (ready .next-is ∙ next-none (put b to 3 last)))
+        first : (qs : List ℕ) → Ready (put b to forwardAt last) to (t .ds) qs next → ((c : List ℕ) → Moved (put b to forwardAt last) (t .f) to (t .ds) qs c → Moved a (adjust a from) to [] (t .rs) c) → Left a from to (put b to forwardAt last) sums next
+        first [] ready rest = absurd (some (ready .next-is ∙ next-none (put b to forwardAt last)))
         first (q ∷ qs) ready rest =
-            let e : q ≡ next = sym (ready .next-is ∙ next-first (put b to 3 last) q qs (ready .chain .0)) in
+            let e : q ≡ next = sym (ready .next-is ∙ next-first (put b to forwardAt last) q qs (ready .chain .0)) in
             record {
               rs = t .rs;
               linked = t .linked;
               ds = t .ds;
               qs = qs;
-              ready = subst (λ (x : ℕ). Ready (put b to 3 last) to (t .ds) (x ∷ qs) next) e ready;
+              ready = subst (λ (x : ℕ). Ready (put b to forwardAt last) to (t .ds) (x ∷ qs) next) e ready;
               f = t .f;
               suffixes = t .suffixes;
               rest =
-                  subst (λ (x : ℕ). (c : List ℕ) → Moved (put b to 3 last) (t .f) to (t .ds) (x ∷ qs) c → Moved a (adjust a from) to [] (t .rs) c) e rest;
+                  subst (λ (x : ℕ). (c : List ℕ) → Moved (put b to forwardAt last) (t .f) to (t .ds) (x ∷ qs) c → Moved a (adjust a from) to [] (t .rs) c) e rest;
             }
 
-    kept : (j : ℕ) → (j ≡ 3 → ⊥) → j < stride → word (put b to 3 last) next j ≡ word b next j
-    kept j ne few = word-other-field b to 3 last next j ne (omega arith) few
+    kept : (j : ℕ) → (j ≡ forwardAt → ⊥) → j < stride → word (put b to forwardAt last) next j ≡ word b next j
+    kept j ne few = word-other-field b to forwardAt last next j ne (omega arith) few
 
     next-can : Turnable1 b to next sums
     next-can =
         let m = left .ready .chain .0 in
-        let long = length-put b to 3 last in
-        let level-kept = kept 0 (λ e. omega arith) (omega arith) in
+        let long = length-put b to forwardAt last in
+        let level-kept = kept levelAt (λ e. omega arith) (omega arith) in
         let has = m .has in
         let low = m .low in
         let high = m .high in
@@ -136,30 +137,30 @@ module _ (a : List ℕ) (from to : ℕ) (b : List ℕ) (last : ℕ) (sums : List
       pub turning-can : Turnable1 b to r sums
       turning-can = subst (λ (x : ℕ). Turnable1 b to x sums) (sym same) next-can
 
-      module _ (n : ℕ) (e : n ≡ word b r 3) (c : List ℕ) (turned : (f : ℕ → ℕ) → Suffixes f sums → TakenOver b f to r last c) where
-        e-next : n ≡ word (put b to 3 last) next 3
+      module _ (n : ℕ) (e : n ≡ word b r forwardAt) (c : List ℕ) (turned : (f : ℕ → ℕ) → Suffixes f sums → TakenOver b f to r last c) where
+        e-next : n ≡ word (put b to forwardAt last) next forwardAt
         e-next =
-            e ∙ ap (λ (x : ℕ). word b x 3) same
-            ∙ sym (word-other-record b to 3 last next 3 (left .ready .apart .0) (omega arith) (omega arith))
+            e ∙ ap (λ (x : ℕ). word b x forwardAt) same
+            ∙ sym (word-other-record b to forwardAt last next forwardAt (left .ready .apart .0) (omega arith) (omega arith))
 
-        one : Turned1 (put b to 3 last) (left .f) to next (left .ds) (put c to 3 next)
+        one : Turned1 (put b to forwardAt last) (left .f) to next (left .ds) (put c to forwardAt next)
         one =
             let old = left .ready in
             turned-beside b (left .f) to next last (left .ds) c (old .built)
-            (ready-fresh (put b to 3 last) to next (left .ds) (left .qs) next old)
+            (ready-fresh (put b to forwardAt last) to next (left .ds) (left .qs) next old)
             (subst (λ (x : ℕ). TakenOver b (left .f) to x last c) same
             (turned (left .f) (left .suffixes)))
 
-        ready : Ready (put c to 3 next) to (next ∷ left .ds) (left .qs) n
+        ready : Ready (put c to forwardAt next) to (next ∷ left .ds) (left .qs) n
         ready =
-            ready-more (put b to 3 last) (left .f) to next (left .ds) (left .qs) next (left .ready) (put c to 3 next) one n e-next
+            ready-more (put b to forwardAt last) (left .f) to next (left .ds) (left .qs) next (left .ready) (put c to forwardAt next) one n e-next
 
-        pub turning-less : count 512 (put c to 3 next) n < count 512 (put b to 3 last) next
+        pub turning-less : count 512 (put c to forwardAt next) n < count 512 (put b to forwardAt last) next
         turning-less =
             let old = left .ready in
             let new = ready in
-            let x = count-is 512 (put b to 3 last) (next ∷ left .qs) next (old .chain) (old .next-is) (old .few) in
-            let y = count-is 512 (put c to 3 next) (left .qs) n (new .chain) (new .next-is) (new .few) in
+            let x = count-is 512 (put b to forwardAt last) (next ∷ left .qs) next (old .chain) (old .next-is) (old .few) in
+            let y = count-is 512 (put c to forwardAt next) (left .qs) n (new .chain) (new .next-is) (new .few) in
             omega arith
 
         pub turning-more : (sums' : List ℕ) → Renewed b r sums sums' → length c ≡ length b → n < 4_294_967_296 → Turning a from to c next sums' n
@@ -170,14 +171,14 @@ module _ (a : List ℕ) (from to : ℕ) (b : List ℕ) (last : ℕ) (sums : List
               ds = next ∷ left .ds;
               qs = left .qs;
               ready = ready;
-              f = after (put b to 3 last) (left .f) next;
+              f = after (put b to forwardAt last) (left .f) next;
               suffixes =
-                  passed-kept (put b to 3 last) b (left .f) next sums' (sym (kept 0 (λ e. omega arith) (omega arith)))
-                  (λ k few. sym (kept (11 + k) (λ e. omega arith) (omega arith)))
+                  passed-kept (put b to forwardAt last) b (left .f) next sums' (sym (kept levelAt (λ e. omega arith) (omega arith)))
+                  (λ k few. sym (kept (adjustAt + k) (λ e. omega arith) (omega arith)))
                   (subst (λ (x : ℕ). Suffixes (after b (left .f) x) sums') same (passed (left .f) (left .suffixes)));
               rest =
                   λ d m. left .rest d
-                  (moved-more (put b to 3 last) (left .f) to next (left .ds) (left .qs) next (left .ready) (put c to 3 next) one d m);
+                  (moved-more (put b to forwardAt last) (left .f) to next (left .ds) (left .qs) next (left .ready) (put c to forwardAt next) one d m);
               long = long ∙ t .long;
               fits = fits;
             }
@@ -190,15 +191,15 @@ left-none b h ds (q ∷ qs) next ready e =
     let some = ready .chain .0 .some in
     absurd (omega arith)
 
-moved-all : (a : List ℕ) (from to : ℕ) (b : List ℕ) (last : ℕ) (sums : List ℕ) (next : ℕ) (t : Turning a from to b last sums next) → next ≡ 0 → Moved a (adjust a from) to [] (t .rs) (put b to 3 last)
+moved-all : (a : List ℕ) (from to : ℕ) (b : List ℕ) (last : ℕ) (sums : List ℕ) (next : ℕ) (t : Turning a from to b last sums next) → next ≡ 0 → Moved a (adjust a from) to [] (t .rs) (put b to forwardAt last)
 moved-all a from to b last sums next t e =
-    let d = put b to 3 last in
+    let d = put b to forwardAt last in
     t .rest d
     (subst (λ (qs : List ℕ). Moved d (t .f) to (t .ds) qs d) (sym (left-none d to (t .ds) (t .qs) next (t .ready) e))
     (moved-none d (t .f) to (t .ds) (t .ready .built)))
 
 module _ (a : List ℕ) (from to : ℕ) (b d : List ℕ) (last : ℕ) (sums : List ℕ) (next : ℕ) (small : (i : ℕ) → getD a i 0 < 4_294_967_296) where
-  pub turning-done : Cleared a to b → Turning b from to d last sums next → next ≡ 0 → (c : List ℕ) → c ≡ put d to 3 last → (rs : List ℕ) → Turnable a from to rs → Turned a from to rs c
+  pub turning-done : Cleared a to b → Turning b from to d last sums next → next ≡ 0 → (c : List ℕ) → c ≡ put d to forwardAt last → (rs : List ℕ) → Turnable a from to rs → Turned a from to rs c
   unfolding trues word
   turning-done cleared t e c stored rs k =
       let linked = linked-cleared a from to rs b k cleared in
@@ -210,19 +211,19 @@ module _ (a : List ℕ) (from to : ℕ) (b d : List ℕ) (last : ℕ) (sums : Li
         long = m .long ∙ cleared .long;
         outside = λ x p q. same-trans a b c x (cleared .outside x p) (m .outside x p q tt);
         built = m .built;
-        levels = all-both rs (λ x (p : level c x ≡ level b x) (q : Same a b x). p ∙ q .at 0 (omega arith)) (m .levels) same;
+        levels = all-both rs (λ x (p : level c x ≡ level b x) (q : Same a b x). p ∙ q .at levelAt (omega arith)) (m .levels) same;
         m-is =
             m .m-is
-            ∙ trues-frame a b (adjust a from) (adjust b from) rs (λ k w. head .at (11 + k) (omega arith))
+            ∙ trues-frame a b (adjust a from) (adjust b from) rs (λ k w. head .at (adjustAt + k) (omega arith))
             (all-map rs (same-value a b) same);
-        p-is = m .p-is ∙ map-same (mWord b) (mWord a) rs (all-map rs (λ x (q : Same a b x). q .at 1 (omega arith)) same);
+        p-is = m .p-is ∙ map-same (mWord b) (mWord a) rs (all-map rs (λ x (q : Same a b x). q .at mAt (omega arith)) same);
         true-p =
             m .true-p
             ∙ ap (λ (l : List ℕ). reverseAux l [])
             (map-same (λ x. mWord b x % 2 ^ 32) (mWord a) rs
             (all-map rs
             (λ x (q : Same a b x).
-            let k : mWord b x ≡ mWord a x = q .at 1 (omega arith) in
+            let k : mWord b x ≡ mWord a x = q .at mAt (omega arith) in
             let s = small (stride * x + 1) in
             omega arith)
             same));

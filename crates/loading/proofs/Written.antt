@@ -1,14 +1,14 @@
 -- What the words are after a record is filled and put before a list that is being built.
--- The three stores reach words 0 to 2 of that record alone, and what putting its links before the list does is known.
+-- The three stores reach the level, m and p of that record alone, and what putting its links before the list does is known.
 use mathlib.Core.Path.{_≡_, refl, sym, ap, ap₂, subst, _∙_}
 use mathlib.Core.List.{List, _∷_}
 use Prim.Native.Nat.{ℕ, _%_, _^_, _≤_, _<_}
 use native.Mathlib.Omega.{arith}
 use lib.ListN.{length}
-use Rattle.arena.specs.Arena.{word, level, mWord, pWord}
+use Rattle.arena.specs.Arena.{level, mWord, pWord, levelAt, mAt, pAt, forwardAt}
 use Rattle.arena.specs.inside.Chain.{Has, put, All, Away, trues, Same}
 use Rattle.arena.specs.inside.Building.{Hooked, Built, Fresh, Prepended}
-use Rattle.parts.specs.inside.Loading.{written, Placed}
+use Rattle.loading.specs.inside.Loading.{written, Placed}
 use Rattle.arena.proofs.PutLaws.{length-put, word-same, word-other-record, word-other-field, put-swap, same-trans}
 use Rattle.arena.proofs.Frames.{all-map, same-value, built-frame, trues-frame}
 use Rattle.arena.proofs.HookLaws.{hooked-all}
@@ -17,53 +17,53 @@ use Rattle.arena.proofs.PrependLaws.{prepended}
 module _ (a : List ℕ) (r l m p : ℕ) where
   written-long : length (written a r l m p) ≡ length a
   unfolding written
-  written-long = length-put _ r 2 p ∙ length-put _ r 1 m ∙ length-put a r 0 l
+  written-long = length-put _ r pAt p ∙ length-put _ r mAt m ∙ length-put a r levelAt l
 
   written-outside : (x : ℕ) → (x ≡ r → ⊥) → Same a (written a r l m p) x
   unfolding written
   written-outside x q =
       record {
-        at = λ j w. word-other-record _ r 2 p x j q (omega arith) w
-            ∙ word-other-record _ r 1 m x j q (omega arith) w
-            ∙ word-other-record a r 0 l x j q (omega arith) w;
+        at = λ j w. word-other-record _ r pAt p x j q (omega arith) w
+            ∙ word-other-record _ r mAt m x j q (omega arith) w
+            ∙ word-other-record a r levelAt l x j q (omega arith) w;
       }
 
   module _ (has : Has a r) where
     written-level : level (written a r l m p) r ≡ l
     unfolding written
     written-level =
-        word-other-field _ r 2 p r 0 (λ e. omega arith) (omega arith) (omega arith)
-        ∙ word-other-field _ r 1 m r 0 (λ e. omega arith) (omega arith) (omega arith)
-        ∙ word-same a r 0 l has (omega arith)
+        word-other-field _ r pAt p r levelAt (λ e. omega arith) (omega arith) (omega arith)
+        ∙ word-other-field _ r mAt m r levelAt (λ e. omega arith) (omega arith) (omega arith)
+        ∙ word-same a r levelAt l has (omega arith)
 
     written-m : mWord (written a r l m p) r ≡ m
     unfolding written
     written-m =
-        let long = length-put a r 0 l in
-        word-other-field _ r 2 p r 1 (λ e. omega arith) (omega arith) (omega arith)
-        ∙ word-same _ r 1 m (omega arith) (omega arith)
+        let long = length-put a r levelAt l in
+        word-other-field _ r pAt p r mAt (λ e. omega arith) (omega arith) (omega arith)
+        ∙ word-same _ r mAt m (omega arith) (omega arith)
 
     written-p : pWord (written a r l m p) r ≡ p
     unfolding written
     written-p =
-        let long = length-put a r 0 l in
-        let long₂ = length-put (put a r 0 l) r 1 m in
-        word-same _ r 2 p (omega arith) (omega arith)
+        let long = length-put a r levelAt l in
+        let long₂ = length-put (put a r levelAt l) r mAt m in
+        word-same _ r pAt p (omega arith) (omega arith)
 
 -- The code's four stores, of the level, m, p and the record that follows.
-module _ (a : List ℕ) (r l m p last : ℕ) (b c d e : List ℕ) (first : b ≡ put a r 0 l) (second : c ≡ put b r 1 m) (third : d ≡ put c r 2 p) (fourth : e ≡ put d r 3 last) where
-  stored : e ≡ put (written a r l m p) r 3 last
+module _ (a : List ℕ) (r l m p last : ℕ) (b c d e : List ℕ) (first : b ≡ put a r levelAt l) (second : c ≡ put b r mAt m) (third : d ≡ put c r pAt p) (fourth : e ≡ put d r forwardAt last) where
+  stored : e ≡ put (written a r l m p) r forwardAt last
   unfolding written
   stored = cc
 
   module _ (has : Has a r) where
-    pub stored-level : word e r 0 ≡ l
+    pub stored-level : level e r ≡ l
     stored-level =
-        ap (λ (s : List ℕ). word s r 0) stored
-        ∙ word-other-field (written a r l m p) r 3 last r 0 (λ f. omega arith) (omega arith) (omega arith)
+        ap (λ (s : List ℕ). level s r) stored
+        ∙ word-other-field (written a r l m p) r forwardAt last r levelAt (λ f. omega arith) (omega arith) (omega arith)
         ∙ written-level a r l m p has
 
-    pub stored-loaded : (h : ℕ) (g : List ℕ) → Hooked 1 (word e r 0) e h r g → Placed a h r last l m p g
+    pub stored-loaded : (h : ℕ) (g : List ℕ) → Hooked 1 (level e r) e h r g → Placed a h r last l m p g
     stored-loaded h g hooks =
         subst (λ (s : List ℕ). Hooked 1 l s h r g) stored (subst (λ (n : ℕ). Hooked 1 n e h r g) stored-level hooks)
 
@@ -90,8 +90,8 @@ loaded-one a h r l m p rs b built some has low high small apart away hooks =
     record {
       long = q .long ∙ long;
       outside = λ x v w. same-trans a s b x (written-outside a r l m p x w) (q .outside x v w);
-      level-is = q .low r 0 (omega arith) ∙ level-is;
-      m-is = q .low r 1 (omega arith) ∙ written-m a r l m p has;
+      level-is = q .low r levelAt (omega arith) ∙ level-is;
+      m-is = q .low r mAt (omega arith) ∙ written-m a r l m p has;
       built = q .built;
       true-p =
           q .true-p
@@ -99,19 +99,19 @@ loaded-one a h r l m p rs b built some has low high small apart away hooks =
     }
 
 -- The head's first forward may be stored before the record is filled or after.
-written-beside : (a : List ℕ) (r l m p h v : ℕ) → put (written a r l m p) h 3 v ≡ written (put a h 3 v) r l m p
+written-beside : (a : List ℕ) (r l m p h v : ℕ) → put (written a r l m p) h forwardAt v ≡ written (put a h forwardAt v) r l m p
 unfolding written
 written-beside a r l m p h v =
-    put-swap (put (put a r 0 l) r 1 m) r 2 p h 3 v (λ e. omega arith) (omega arith) (omega arith)
-    ∙ ap (λ (s : List ℕ). put s r 2 p) (put-swap (put a r 0 l) r 1 m h 3 v (λ e. omega arith) (omega arith) (omega arith))
-    ∙ ap (λ (s : List ℕ). put (put s r 1 m) r 2 p) (put-swap a r 0 l h 3 v (λ e. omega arith) (omega arith) (omega arith))
+    put-swap (put (put a r levelAt l) r mAt m) r pAt p h forwardAt v (λ e. omega arith) (omega arith) (omega arith)
+    ∙ ap (λ (s : List ℕ). put s r pAt p) (put-swap (put a r levelAt l) r mAt m h forwardAt v (λ e. omega arith) (omega arith) (omega arith))
+    ∙ ap (λ (s : List ℕ). put (put s r mAt m) r pAt p) (put-swap a r levelAt l h forwardAt v (λ e. omega arith) (omega arith) (omega arith))
 
 -- One such record, where the head's first forward stands beside the arena and is stored before and after.
-pub loaded-beside : (a : List ℕ) (h r l m p last : ℕ) (rs b : List ℕ) → Built (put a h 3 last) h rs → 1 ≤ r → Has a r → 1 ≤ l → l ≤ 8 → p < 4_294_967_296 → (r ≡ h → ⊥) → Away r rs → Placed a h r last l m p b → Loaded1 (put a h 3 last) h r l m p rs (put b h 3 r)
+pub loaded-beside : (a : List ℕ) (h r l m p last : ℕ) (rs b : List ℕ) → Built (put a h forwardAt last) h rs → 1 ≤ r → Has a r → 1 ≤ l → l ≤ 8 → p < 4_294_967_296 → (r ≡ h → ⊥) → Away r rs → Placed a h r last l m p b → Loaded1 (put a h forwardAt last) h r l m p rs (put b h forwardAt r)
 loaded-beside a h r l m p last rs b built some has low high small apart away hooks =
-    let long = length-put a h 3 last in
+    let long = length-put a h forwardAt last in
     let w-long = written-long a r l m p in
     let head-has = built .linked .has in
-    loaded-one (put a h 3 last) h r l m p rs (put b h 3 r) built some (omega arith) low high small apart away
-    (subst (λ (s : List ℕ). Hooked 0 l s h r (put b h 3 r)) (written-beside a r l m p h last)
+    loaded-one (put a h forwardAt last) h r l m p rs (put b h forwardAt r) built some (omega arith) low high small apart away
+    (subst (λ (s : List ℕ). Hooked 0 l s h r (put b h forwardAt r)) (written-beside a r l m p h last)
     (hooked-all l (written a r l m p) h r last b low high (omega arith) (omega arith) apart hooks))

@@ -1,0 +1,4 @@
+pub mod LinkTurns
+pub mod Swaps
+pub mod Turns
+pub mod TurnWalk

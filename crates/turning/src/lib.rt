@@ -1,0 +1,2 @@
+// Turning a list: m and p change places and the order reverses.
+pub mod turn;
