@@ -5,7 +5,15 @@ use Prim.Native.Nat.{ℕ, _+_, _*_, _-_, _≤_, _<_}
 use lib.ListN.{length, getD}
 use Rattle.slicing.specs.Item.{Item}
 use Rattle.slicing.specs.Tree.{Tree, gauge, beside, stacked, gaugeCount}
-use Rattle.stored.specs.inside.Packed.{ownShapes, HasList}
+use Rattle.slicing.specs.Merge.{turn}
+use Rattle.slicing.specs.Shapes.{shapes}
+use Rattle.packed.specs.inside.Packed.{HasList}
+
+-- The shape list of a part as it is stored: by height for a gauge and side by side, by width for stacked.
+unfoldable pub ownShapes : Tree → List Item
+ownShapes (gauge s) = shapes 0 (gauge s)
+ownShapes (beside a b) = shapes 0 (beside a b)
+ownShapes (stacked a b) = turn (shapes 0 (stacked a b))
 
 -- Part e, counted from 0 as its last entry stands in the file, has four words of the table: where its list starts, its length, its kind and its gauges.
 pub record Entry (s : List ℕ) (e kind gauges : ℕ) (l : List Item) : Type 0 where

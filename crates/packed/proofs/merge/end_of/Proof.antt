@@ -1,10 +1,10 @@
--- `stored::merge::end_of` meets its contract.
+-- `packed::merge::end_of` meets its contract.
 -- After as many items as there are, the place is past the stretch, or before it where the list is read turned.
 use native.Mathlib.Omega.{arith}
 use borrow.Author.Needs.{needs}
-use Rattle.stored.proofs.Places.{at-along, at-turned}
-use Rattle.stored.proofs.merge.end_of.Statement.{statement}
-use Rattle.stored.proofs.merge.end_of.Tie as tie
+use Rattle.packed.proofs.Places.{at-along, at-turned}
+use Rattle.packed.proofs.merge.end_of.Statement.{statement}
+use Rattle.packed.proofs.merge.end_of.Tie as tie
 
 sub-result : tie.Need-sub-result
 sub-result c = search needs

@@ -1,14 +1,14 @@
--- `stored::merge::merge_lists` meets its contract.
+-- `packed::merge::merge_lists` meets its contract.
 -- The loop keeps `Holding`: what is written, followed by the merge of what is left, is the whole merge, both places are those of the first items left, and x and y are their words. The measure is the items left of both lists.
 use Prim.Native.Nat.{_+_}
 use native.Mathlib.Omega.{arith}
 use borrow.Author.Needs.{needs}
-use Rattle.stored.proofs.Places.{left}
-use Rattle.stored.proofs.Walking.{within-both}
-use Rattle.stored.proofs.HeldWords.{Holding, starts-inside, holding-start, holding-room, holding-past, holding-length, holding-fits, holding-older, holding-newer}
-use Rattle.stored.proofs.HeldWords.{turn-newer, turn-older, turn-both, turn-newer-out, turn-less, newer-again, older-again, both-again, older-next, newer-next, older-last}
-use Rattle.stored.proofs.merge.merge_lists.Statement.{statement}
-use Rattle.stored.proofs.merge.merge_lists.Tie as tie
+use Rattle.packed.proofs.Places.{left}
+use Rattle.packed.proofs.Walking.{within-both}
+use Rattle.packed.proofs.HeldWords.{Holding, starts-inside, holding-start, holding-room, holding-past, holding-length, holding-fits, holding-older, holding-newer}
+use Rattle.packed.proofs.HeldWords.{turn-newer, turn-older, turn-both, turn-newer-out, turn-less, newer-again, older-again, both-again, older-next, newer-next, older-last}
+use Rattle.packed.proofs.merge.merge_lists.Statement.{statement}
+use Rattle.packed.proofs.merge.merge_lists.Tie as tie
 
 abbrev Inv-loop : tie.InvT-loop
 Inv-loop scratch₀ a b to i₀ j₀ end stop x₀ y₀ at₀ scratch i j x y at = Holding scratch₀ a b to end stop scratch i j x y at

@@ -1,10 +1,10 @@
--- `stored::item::read_item` meets its contract.
+-- `packed::item::read_item` meets its contract.
 -- Where the list is read turned, the word is that of the item as far from the other end, with its halves swapped.
 use mathlib.Core.Path.{refl}
 use borrow.Author.Needs.{needs}
-use Rattle.stored.proofs.Reading.{read-along, read-across}
-use Rattle.stored.proofs.item.read_item.Statement.{statement}
-use Rattle.stored.proofs.item.read_item.Tie as tie
+use Rattle.packed.proofs.Reading.{read-along, read-across}
+use Rattle.packed.proofs.item.read_item.Statement.{statement}
+use Rattle.packed.proofs.item.read_item.Tie as tie
 
 sub-swapped : tie.Need-sub-swapped
 sub-swapped c = search needs

@@ -5,10 +5,10 @@ use mathlib.Core.List.{List}
 use Prim.Native.Nat.{ℕ, _-_, _^_, _≤_, _<_}
 use native.Mathlib.Omega.{arith}
 use Rattle.slicing.specs.Item.{Item}
-use Rattle.stored.specs.inside.Joining.{Within, AtItem, Joinable, Joined}
-use Rattle.stored.specs.declared.merge.Stretch.{Stretch}
-use Rattle.stored.proofs.Merging.{Reads, Merging, merging-start, merging-older-out, merging-newer-out}
-use Rattle.stored.proofs.Places.{ReadAt, read-kept, at-more, at-out, at-between, at-reads}
+use Rattle.packed.specs.inside.Joining.{Within, AtItem, Joinable, Joined}
+use Rattle.packed.specs.declared.merge.Stretch.{Stretch}
+use Rattle.packed.proofs.Merging.{Reads, Merging, merging-start, merging-older-out, merging-newer-out}
+use Rattle.packed.proofs.Places.{ReadAt, read-kept, at-more, at-out, at-between, at-reads}
 
 -- Both stretches have a place before them, and the places after them fit in a usize.
 pub within-both : (s : List ℕ) (a b : Stretch) (to : ℕ) → ((l : List Item) × (k : List Item) × Joinable s a b to l k) → to < 2 ^ 64 → Within a × Within b

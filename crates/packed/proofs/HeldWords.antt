@@ -9,11 +9,11 @@ use lib.ListN.{length, set, length-set}
 use borrow.Author.Tests.{eqb-true, eqb-false}
 use Rattle.checks.proofs.Cases.{by-test}
 use Rattle.slicing.specs.Item.{Item}
-use Rattle.stored.specs.inside.Joining.{AtItem, Joinable, Joined}
-use Rattle.stored.specs.declared.merge.Stretch.{Stretch}
-use Rattle.stored.proofs.Merging.{Reads, Goes, merging-room, merging-past, merging-fits, one-goes, merging-turn}
-use Rattle.stored.proofs.Places.{ReadAt, Moved, one-on, on-moved, not-moved, left, at-more, at-between, at-moved, left-is}
-use Rattle.stored.proofs.Walking.{Walking, walking-start, walking-older-out, walking-newer-out, older-more, newer-more, older-inside, newer-inside, older-reads, newer-reads}
+use Rattle.packed.specs.inside.Joining.{AtItem, Joinable, Joined}
+use Rattle.packed.specs.declared.merge.Stretch.{Stretch}
+use Rattle.packed.proofs.Merging.{Reads, Goes, merging-room, merging-past, merging-fits, one-goes, merging-turn}
+use Rattle.packed.proofs.Places.{ReadAt, Moved, one-on, on-moved, not-moved, left, at-more, at-between, at-moved, left-is}
+use Rattle.packed.proofs.Walking.{Walking, walking-start, walking-older-out, walking-newer-out, older-more, newer-more, older-inside, newer-inside, older-reads, newer-reads}
 
 -- At the start of a turn: each list has an item left, and x and y are the words of these two.
 pub record Holding (s : List ℕ) (a b : Stretch) (to end stop : ℕ) (z : List ℕ) (i j x y at : ℕ) : Type 0 where

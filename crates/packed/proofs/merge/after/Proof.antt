@@ -1,10 +1,10 @@
--- `stored::merge::after` meets its contract.
+-- `packed::merge::after` meets its contract.
 -- Each way out is one answer of the test.
 use mathlib.Core.Path.{refl}
 use borrow.Author.Needs.{needs}
-use Rattle.stored.proofs.Places.{either-along, either-turned}
-use Rattle.stored.proofs.merge.after.Statement.{statement}
-use Rattle.stored.proofs.merge.after.Tie as tie
+use Rattle.packed.proofs.Places.{either-along, either-turned}
+use Rattle.packed.proofs.merge.after.Statement.{statement}
+use Rattle.packed.proofs.merge.after.Tie as tie
 
 sub-result : tie.Need-sub-result
 sub-result c = search needs

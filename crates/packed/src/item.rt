@@ -4,7 +4,7 @@ ghost use mathlib.Core.List.{List};
 ghost use Prim.Native.Nat.{_+_, _*_, _/_, _%_, _<_};
 ghost use lib.ListN.{length, getD};
 ghost use Rattle.slicing.specs.Item.{Item, size};
-ghost use Rattle.stored.specs.inside.Packed.{pack, facing, HasList};
+ghost use Rattle.packed.specs.inside.Packed.{pack, facing, HasList};
 
 // m in the high half, p in the low half.
 pub fn packed(m: u32, p: u32) -> u32

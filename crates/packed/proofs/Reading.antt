@@ -12,7 +12,7 @@ use lib.Seq.{getD-at}
 use Rattle.slicing.specs.Item.{Item, size}
 use Rattle.slicing.specs.Merge.{swap, turn}
 use Rattle.slicing.proofs.TurnLaws.{turn-cons, turn-length}
-use Rattle.stored.specs.inside.Packed.{pack, facing, HasList}
+use Rattle.packed.specs.inside.Packed.{pack, facing, HasList}
 
 -- The last item of the list turned is the first, swapped; the others are those of the rest.
 pub turn-at : (l : List Item) (k : ℕ) → k < length l → getD (turn l) k (size 0 0) ≡ swap (getD l (length l - 1 - k) (size 0 0))

@@ -7,10 +7,10 @@ use Prim.Native.Nat.{ℕ, _+_, _*_, _-_, _/_, _%_, _≤_, _<_}
 use native.Mathlib.Omega.{arith}
 use lib.ListN.{getD}
 use Rattle.checks.proofs.Cases.{by-test}
-use Rattle.stored.specs.inside.Joining.{AtItem}
-use Rattle.stored.specs.declared.merge.Stretch.{Stretch}
-use Rattle.stored.proofs.Reading.{read-along, read-across}
-use Rattle.stored.proofs.Merging.{Reads}
+use Rattle.packed.specs.inside.Joining.{AtItem}
+use Rattle.packed.specs.declared.merge.Stretch.{Stretch}
+use Rattle.packed.proofs.Reading.{read-along, read-across}
+use Rattle.packed.proofs.Merging.{Reads}
 
 -- What is said of a test that fails says nothing of one that holds, and the other way round.
 abbrev pub Either : Bool → ℕ → ℕ → ℕ → Type 0

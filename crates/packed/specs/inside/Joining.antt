@@ -6,8 +6,8 @@ use Prim.Native.Nat.{ℕ, _+_, _^_, _≤_, _<_}
 use lib.ListN.{length, getD}
 use Rattle.slicing.specs.Item.{Item, size}
 use Rattle.slicing.specs.Merge.{merge}
-use Rattle.stored.specs.inside.Packed.{facing, HasList}
-use Rattle.stored.specs.declared.merge.Stretch.{Stretch}
+use Rattle.packed.specs.inside.Packed.{facing, HasList}
+use Rattle.packed.specs.declared.merge.Stretch.{Stretch}
 
 -- The list l of a stretch, read as the stretch says.
 abbrev pub readAs : Stretch → List Item → List Item

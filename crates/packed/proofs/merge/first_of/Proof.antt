@@ -1,10 +1,10 @@
--- `stored::merge::first_of` meets its contract.
+-- `packed::merge::first_of` meets its contract.
 -- The place of item 0 is the stretch's start, or its last place where the list is read turned.
 use native.Mathlib.Omega.{arith}
 use borrow.Author.Needs.{needs}
-use Rattle.stored.proofs.Places.{at-along, at-turned}
-use Rattle.stored.proofs.merge.first_of.Statement.{statement}
-use Rattle.stored.proofs.merge.first_of.Tie as tie
+use Rattle.packed.proofs.Places.{at-along, at-turned}
+use Rattle.packed.proofs.merge.first_of.Statement.{statement}
+use Rattle.packed.proofs.merge.first_of.Tie as tie
 
 add-result : tie.Need-add-result
 add-result c = search needs

@@ -1,10 +1,10 @@
--- `stored::merge::read_at` meets its contract.
+-- `packed::merge::read_at` meets its contract.
 -- Each way out is one answer of the test.
 use mathlib.Core.Path.{refl}
 use borrow.Author.Needs.{needs}
-use Rattle.stored.proofs.Places.{either-along, either-turned}
-use Rattle.stored.proofs.merge.read_at.Statement.{statement}
-use Rattle.stored.proofs.merge.read_at.Tie as tie
+use Rattle.packed.proofs.Places.{either-along, either-turned}
+use Rattle.packed.proofs.merge.read_at.Statement.{statement}
+use Rattle.packed.proofs.merge.read_at.Tie as tie
 
 mul-swapped : tie.Need-mul-swapped
 mul-swapped c = search needs

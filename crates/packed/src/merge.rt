@@ -5,7 +5,7 @@ ghost use mathlib.Core.Bool.{true, false};
 ghost use Prim.Native.Nat.{_+_, _-_, _*_, _/_, _%_, _^_, _<_, _≤_};
 ghost use lib.ListN.{length, getD};
 ghost use Rattle.slicing.specs.Item.{Item};
-ghost use Rattle.stored.specs.inside.Joining.{Within, AtItem, Joinable, Joined};
+ghost use Rattle.packed.specs.inside.Joining.{Within, AtItem, Joinable, Joined};
 use crate::item::m_of;
 use crate::item::p_of;
 use crate::item::swapped;

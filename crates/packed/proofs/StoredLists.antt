@@ -11,8 +11,8 @@ use lib.ListN.{length, getD, set, length-set, length-append, List·getD-append}
 use lib.Seq.{getD-at, getD-set-same, getD-set-other, ext-getD}
 use Rattle.slicing.specs.Item.{Item, size}
 use Rattle.slicing.proofs.TurnLaws.{turn-length}
-use Rattle.stored.specs.inside.Packed.{pack, facing, HasList}
-use Rattle.stored.proofs.Reading.{turn-at}
+use Rattle.packed.specs.inside.Packed.{pack, facing, HasList}
+use Rattle.packed.proofs.Reading.{turn-at}
 
 -- The list, read either way, has as many items, below 65,536 both ways.
 pub facing-length : (across : Bool) (l : List Item) → length (facing across l) ≡ length l

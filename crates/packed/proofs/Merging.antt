@@ -11,12 +11,12 @@ use lib.ListN.{length, getD, set, drop, length-set, length-append, drop-of-lengt
 use lib.Seq.{drop-cons, drop-drop, getD-set-other}
 use Rattle.slicing.specs.Item.{Item, size}
 use Rattle.slicing.specs.Merge.{merge}
-use Rattle.stored.specs.inside.Packed.{pack, HasList}
-use Rattle.stored.specs.inside.Joining.{readAs, mergeOf, Joinable, Joined}
-use Rattle.stored.specs.declared.merge.Stretch.{Stretch}
-use Rattle.stored.proofs.Reading.{ItemWord}
-use Rattle.stored.proofs.StoredLists.{Low, facing-length, facing-low, m-is, p-is, place-in, has-one, has-grown}
-use Rattle.stored.proofs.MergeTurns.{merge-nil, merge-turn}
+use Rattle.packed.specs.inside.Packed.{pack, HasList}
+use Rattle.packed.specs.inside.Joining.{readAs, mergeOf, Joinable, Joined}
+use Rattle.packed.specs.declared.merge.Stretch.{Stretch}
+use Rattle.packed.proofs.Reading.{ItemWord}
+use Rattle.packed.proofs.StoredLists.{Low, facing-length, facing-low, m-is, p-is, place-in, has-one, has-grown}
+use Rattle.packed.proofs.MergeTurns.{merge-nil, merge-turn}
 
 -- For a caller: the sums of the p fit where no item of either list has a larger p than a bound.
 pub sums-low : (a b : Stretch) (l k : List Item) (m n : ℕ) → ((z : Item) → List·Memᴰ z (readAs a l) → z .p ≤ m) → ((z : Item) → List·Memᴰ z (readAs b k) → z .p ≤ n) → m + n < 65_536
