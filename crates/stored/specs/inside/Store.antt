@@ -7,6 +7,7 @@ use Rattle.slicing.specs.Item.{Item}
 use Rattle.slicing.specs.Tree.{Tree, gauge, beside, stacked, gaugeCount}
 use Rattle.slicing.specs.Merge.{turn}
 use Rattle.slicing.specs.Shapes.{shapes}
+use Rattle.facefile.specs.inside.Kinds.{kindOf}
 use Rattle.packed.specs.inside.Packed.{HasList}
 
 -- The shape list of a part as it is stored: by height for a gauge and side by side, by width for stacked.
@@ -25,12 +26,12 @@ pub record Entry (s : List ℕ) (e kind gauges : ℕ) (l : List Item) : Type 0 w
 
 -- A part of g gauges has 2 g - 1 entries. The newer part of a join is the one before it, and the older is the one before all entries of the newer.
 abbrev pub Stored : List ℕ → ℕ → Tree → Type 0
-Stored s e (gauge z) = Entry s e 0x01 1 (ownShapes (gauge z))
+Stored s e (gauge z) = Entry s e (kindOf (gauge z)) 1 (ownShapes (gauge z))
 Stored s e (beside a b) =
-    Entry s e 0x02 (gaugeCount (beside a b)) (ownShapes (beside a b)) × (2 * gaugeCount (beside a b) ≤ e + 2)
+    Entry s e (kindOf (beside a b)) (gaugeCount (beside a b)) (ownShapes (beside a b)) × (2 * gaugeCount (beside a b) ≤ e + 2)
     × Stored s (e - 1) b
     × Stored s (e - 2 * gaugeCount b) a
 Stored s e (stacked a b) =
-    Entry s e 0x03 (gaugeCount (stacked a b)) (ownShapes (stacked a b)) × (2 * gaugeCount (stacked a b) ≤ e + 2)
+    Entry s e (kindOf (stacked a b)) (gaugeCount (stacked a b)) (ownShapes (stacked a b)) × (2 * gaugeCount (stacked a b) ≤ e + 2)
     × Stored s (e - 1) b
     × Stored s (e - 2 * gaugeCount b) a
