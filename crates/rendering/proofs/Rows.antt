@@ -9,8 +9,8 @@ use lib.ListN.{length, getD, drop, length-drop}
 use lib.Seq.{drop-cons}
 use Rattle.text.specs.inside.Appending.{Appended}
 use Rattle.text.proofs.Appends.{nothing, joined, appended-length, first-room, rest-room}
-use Rattle.report.specs.Text.{itemLine, gaugeLine, gaugeLines}
-use Rattle.report.specs.inside.WordLines.{wordLines}
+use Rattle.rendering.specs.Text.{itemLine, gaugeLine, gaugeLines}
+use Rattle.rendering.specs.inside.WordLines.{wordLines}
 
 -- The bytes `left` are due at the place reached: they fit, and what appends them there completes `all`.
 pub record Due (old : List ℕ) (at : ℕ) (all left text : List ℕ) (next : ℕ) : Type 0 where

@@ -1,10 +1,10 @@
--- `report::render::render_refused` meets its contract.
+-- `rendering::render::render_refused` meets its contract.
 -- The word and the number are the line, by `refused-printed`.
 use native.Mathlib.Omega.{arith}
 use borrow.Author.Needs.{needs}
-use Rattle.report.proofs.Faces.{refused-fits, refused-printed}
-use Rattle.report.proofs.render.render_refused.Statement.{statement}
-use Rattle.report.proofs.render.render_refused.Tie as tie
+use Rattle.rendering.proofs.Faces.{refused-fits, refused-printed}
+use Rattle.rendering.proofs.render.render_refused.Statement.{statement}
+use Rattle.rendering.proofs.render.render_refused.Tie as tie
 
 slice-aggregate-write-named : tie.Need-slice-aggregate-write-named
 slice-aggregate-write-named c = search needs

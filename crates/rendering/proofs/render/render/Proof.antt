@@ -1,11 +1,11 @@
--- `report::render::render` meets its contract.
+-- `rendering::render::render` meets its contract.
 -- The text takes at most `textBytes`, so each of its four parts fits; appended in turn from the buffer's start they are the text by `faces-printed`.
 use native.Mathlib.Omega.{arith}
 use borrow.Author.Needs.{needs}
-use Rattle.report.proofs.Bounds.{Renderable, parts-fit}
-use Rattle.report.proofs.Faces.{parts-appended, faces-printed}
-use Rattle.report.proofs.render.render.Statement.{statement}
-use Rattle.report.proofs.render.render.Tie as tie
+use Rattle.rendering.proofs.Bounds.{Renderable, parts-fit}
+use Rattle.rendering.proofs.Faces.{parts-appended, faces-printed}
+use Rattle.rendering.proofs.render.render.Statement.{statement}
+use Rattle.rendering.proofs.render.render.Tie as tie
 
 abbrev Given : tie.Start → Type 0
 Given c =

@@ -7,7 +7,7 @@ use lib.ListN.{length, length-append}
 use Rattle.text.specs.Fields.{space, newline, field, named}
 use Rattle.text.specs.inside.Appending.{Appended}
 use Rattle.text.proofs.Appends.{joined}
-use Rattle.report.specs.Text.{bestWord, gaugeWord, sizeWord, atWord, itemLine, bestLine, gaugeLine}
+use Rattle.rendering.specs.Text.{bestWord, gaugeWord, sizeWord, atWord, itemLine, bestLine, gaugeLine}
 
 -- The length of three lists of bytes, and of four, joined.
 length-three : (a b c : List ℕ) → length (a ++ (b ++ c)) ≡ length a + (length b + length c)

@@ -1,10 +1,10 @@
--- `report::lines::write_item` meets its contract.
+-- `rendering::lines::write_item` meets its contract.
 -- The two fields fit where the line fits, and appended in turn they are it, by `item-line`.
 use native.Mathlib.Omega.{arith}
 use borrow.Author.Needs.{needs}
-use Rattle.report.proofs.LineLaws.{item-length, item-line}
-use Rattle.report.proofs.lines.write_item.Statement.{statement}
-use Rattle.report.proofs.lines.write_item.Tie as tie
+use Rattle.rendering.proofs.LineLaws.{item-length, item-line}
+use Rattle.rendering.proofs.lines.write_item.Statement.{statement}
+use Rattle.rendering.proofs.lines.write_item.Tie as tie
 
 write-field-requires : tie.Need-write-field-requires
 write-field-requires c κs =

@@ -7,10 +7,10 @@ use native.Mathlib.Omega.{arith}
 use lib.ListN.{length, getD, length-append}
 use Rattle.text.specs.Fields.{space, newline, field, named}
 use Rattle.text.proofs.Lengths.{field-few, named-few}
-use Rattle.report.specs.Text.{facesWord, bestWord, gaugeWord, sizeWord, atWord, refusedWord, itemLine, bestLine, gaugeLine, gaugeLines, refusedText}
-use Rattle.report.specs.Room.{textBytes, refusedBytes}
-use Rattle.report.specs.inside.WordLines.{wordLines}
-use Rattle.report.proofs.LineLaws.{length-four, item-length, best-length, gauge-length}
+use Rattle.rendering.specs.Text.{facesWord, bestWord, gaugeWord, sizeWord, atWord, refusedWord, itemLine, bestLine, gaugeLine, gaugeLines, refusedText}
+use Rattle.rendering.specs.Room.{textBytes, refusedBytes}
+use Rattle.rendering.specs.inside.WordLines.{wordLines}
+use Rattle.rendering.proofs.LineLaws.{length-four, item-length, best-length, gauge-length}
 
 -- Each word of a buffer is below 2^32.
 abbrev pub Words : List ℕ → Type 0

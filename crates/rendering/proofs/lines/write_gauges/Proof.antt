@@ -1,10 +1,10 @@
--- `report::lines::write_gauges` meets its contract.
+-- `rendering::lines::write_gauges` meets its contract.
 -- The loop keeps `GaugesDue`, that the lines of the gauges left complete the lines of all; the measure is the number of the gauges left.
 use borrow.Author.Needs.{needs}
 use Prim.Native.Nat.{_-_}
-use Rattle.report.proofs.Rows.{GaugesDue, gauges-start, gauges-room, gauges-more, gauges-done}
-use Rattle.report.proofs.lines.write_gauges.Statement.{statement}
-use Rattle.report.proofs.lines.write_gauges.Tie as tie
+use Rattle.rendering.proofs.Rows.{GaugesDue, gauges-start, gauges-room, gauges-more, gauges-done}
+use Rattle.rendering.proofs.lines.write_gauges.Statement.{statement}
+use Rattle.rendering.proofs.lines.write_gauges.Tie as tie
 
 abbrev Inv-loop : tie.InvT-loop
 Inv-loop text₀ at layout number next₀ k₀ text next k = GaugesDue text₀ at layout text next k

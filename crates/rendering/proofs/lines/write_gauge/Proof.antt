@@ -1,10 +1,10 @@
--- `report::lines::write_gauge` meets its contract.
+-- `rendering::lines::write_gauge` meets its contract.
 -- The four fields fit where the line fits, and appended in turn they are it, by `gauge-line`.
 use native.Mathlib.Omega.{arith}
 use borrow.Author.Needs.{needs}
-use Rattle.report.proofs.LineLaws.{gauge-length, gauge-line}
-use Rattle.report.proofs.lines.write_gauge.Statement.{statement}
-use Rattle.report.proofs.lines.write_gauge.Tie as tie
+use Rattle.rendering.proofs.LineLaws.{gauge-length, gauge-line}
+use Rattle.rendering.proofs.lines.write_gauge.Statement.{statement}
+use Rattle.rendering.proofs.lines.write_gauge.Tie as tie
 
 slice-aggregate-write-named : tie.Need-slice-aggregate-write-named
 slice-aggregate-write-named c = search needs

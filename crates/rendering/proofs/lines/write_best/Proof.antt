@@ -1,10 +1,10 @@
--- `report::lines::write_best` meets its contract.
+-- `rendering::lines::write_best` meets its contract.
 -- The three fields fit where the line fits, and appended in turn they are it, by `best-line`.
 use native.Mathlib.Omega.{arith}
 use borrow.Author.Needs.{needs}
-use Rattle.report.proofs.LineLaws.{best-length, best-line}
-use Rattle.report.proofs.lines.write_best.Statement.{statement}
-use Rattle.report.proofs.lines.write_best.Tie as tie
+use Rattle.rendering.proofs.LineLaws.{best-length, best-line}
+use Rattle.rendering.proofs.lines.write_best.Statement.{statement}
+use Rattle.rendering.proofs.lines.write_best.Tie as tie
 
 slice-aggregate-write-named : tie.Need-slice-aggregate-write-named
 slice-aggregate-write-named c = search needs

@@ -12,10 +12,10 @@ use Rattle.text.proofs.Appends.{same-bytes, joined, from-start, counted}
 use Rattle.slicing.specs.Item.{Item, height, width}
 use Rattle.shapes.specs.Listing.{listWords}
 use Rattle.shapes.proofs.WordLaws.{words-length}
-use Rattle.report.specs.Text.{facesWord, refusedWord, itemLine, itemLines, bestLine, gaugeLines, facesText, refusedText}
-use Rattle.report.specs.Room.{textBytes, refusedBytes}
-use Rattle.report.specs.inside.WordLines.{wordLines}
-use Rattle.report.proofs.Bounds.{parts, Renderable, parts-most, refused-most}
+use Rattle.rendering.specs.Text.{facesWord, refusedWord, itemLine, itemLines, bestLine, gaugeLines, facesText, refusedText}
+use Rattle.rendering.specs.Room.{textBytes, refusedBytes}
+use Rattle.rendering.specs.inside.WordLines.{wordLines}
+use Rattle.rendering.proofs.Bounds.{parts, Renderable, parts-most, refused-most}
 
 lines-listed : (l : List Item) → wordLines (listWords l) ≡ itemLines l
 unfolding wordLines listWords itemLines

@@ -1,10 +1,10 @@
--- `report::lines::write_items` meets its contract.
+-- `rendering::lines::write_items` meets its contract.
 -- The loop keeps `ItemsDue`, that the lines of the items left complete the lines of all; the measure is the number of the items left.
 use borrow.Author.Needs.{needs}
 use Prim.Native.Nat.{_-_}
-use Rattle.report.proofs.Rows.{ItemsDue, items-start, items-room, items-more, items-done}
-use Rattle.report.proofs.lines.write_items.Statement.{statement}
-use Rattle.report.proofs.lines.write_items.Tie as tie
+use Rattle.rendering.proofs.Rows.{ItemsDue, items-start, items-room, items-more, items-done}
+use Rattle.rendering.proofs.lines.write_items.Statement.{statement}
+use Rattle.rendering.proofs.lines.write_items.Tie as tie
 
 abbrev Inv-loop : tie.InvT-loop
 Inv-loop text₀ at items number next₀ k₀ text next k = ItemsDue text₀ at items text next k
