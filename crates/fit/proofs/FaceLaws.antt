@@ -19,11 +19,11 @@ use Rattle.slicing.proofs.ShapeLaws.{shapes-short}
 use Rattle.facefile.specs.Format.{faceOf}
 use Rattle.facefile.proofs.Taken.{face-taken}
 use Rattle.lent.specs.Lent.{writtenOver}
-use Rattle.stored.specs.inside.Packed.{facing, ownShapes, HasList}
-use Rattle.stored.specs.inside.Store.{Stored}
+use Rattle.packed.specs.inside.Packed.{facing, HasList}
+use Rattle.packed.specs.declared.merge.Stretch.{Stretch}
+use Rattle.packed.proofs.StoredLists.{m-is, p-is}
+use Rattle.stored.specs.inside.Store.{ownShapes, Stored}
 use Rattle.stored.specs.inside.Filling.{stretchOf, Filled}
-use Rattle.stored.specs.declared.merge.Stretch.{Stretch}
-use Rattle.stored.proofs.StoredLists.{m-is, p-is}
 use Rattle.stored.proofs.OwnLists.{own-length}
 use Rattle.picking.specs.inside.Picking.{pickAt, Picks}
 use Rattle.picking.proofs.Looking.{product-low}

@@ -13,12 +13,12 @@ use crate::Fitted;
 use checks::limits::WORDS;
 use laying::lay::item_at;
 use laying::lay::lay;
+use packed::item::m_of;
+use packed::item::p_of;
 use parts::build::build;
 use picking::pick::pick;
 use stored::fill::store_lists;
 use stored::fill::stretch;
-use stored::item::m_of;
-use stored::item::p_of;
 
 // How many words the buffers have that a call is lent.
 struct Lengths {

@@ -10,9 +10,9 @@ use Rattle.slicing.specs.Tree.{Tree, gauge, beside, stacked, gaugeCount}
 use Rattle.slicing.specs.Good.{Good}
 use Rattle.slicing.specs.Shapes.{shapes}
 use Rattle.slicing.specs.Fit.{place}
-use Rattle.stored.specs.inside.Packed.{pack}
+use Rattle.packed.specs.inside.Packed.{pack}
+use Rattle.packed.proofs.StoredLists.{m-is, p-is}
 use Rattle.stored.specs.inside.Store.{Stored}
-use Rattle.stored.proofs.StoredLists.{m-is, p-is}
 use Rattle.laying.specs.inside.Laying.{shapeAt, Layable, laid}
 use Rattle.laying.proofs.OrderLaws.{index-at}
 use Rattle.laying.proofs.StretchLaws.{table-inside}

@@ -19,9 +19,9 @@ use Rattle.slicing.proofs.Counts.{gauges-joined}
 use Rattle.slicing.proofs.ShapeLaws.{shapes-ordered}
 use Rattle.slicing.proofs.TurnLaws.{turn-ordered, turn-out}
 use Rattle.slicing.proofs.Placing.{Sides, sides}
-use Rattle.stored.specs.inside.Packed.{facing}
+use Rattle.packed.specs.inside.Packed.{facing}
+use Rattle.packed.proofs.StoredLists.{place-in}
 use Rattle.stored.specs.inside.Store.{Stored}
-use Rattle.stored.proofs.StoredLists.{place-in}
 use Rattle.laying.specs.inside.Taking.{facingItem}
 use Rattle.laying.specs.inside.Laying.{shapeAt, movedBy, Layable}
 

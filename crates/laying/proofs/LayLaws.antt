@@ -14,9 +14,9 @@ use Rattle.slicing.specs.Shapes.{shapes}
 use Rattle.slicing.specs.Fit.{noTaller, place}
 use Rattle.slicing.proofs.Depths.{depth-few}
 use Rattle.slicing.proofs.Placing.{words-length}
-use Rattle.stored.specs.inside.Packed.{pack, facing}
+use Rattle.packed.specs.inside.Packed.{pack, facing}
+use Rattle.packed.proofs.StoredLists.{Low, m-is, p-is}
 use Rattle.stored.specs.inside.Store.{Stored}
-use Rattle.stored.proofs.StoredLists.{Low, m-is, p-is}
 use Rattle.stored.proofs.OwnLists.{entry-of}
 use Rattle.laying.specs.inside.Taking.{facingItem, Takable, Takes}
 use Rattle.laying.specs.inside.Laying.{shapeAt, movedBy, Layable, laid}

@@ -14,8 +14,8 @@ use Rattle.slicing.specs.Good.{Ordered}
 use Rattle.slicing.specs.Fit.{noTaller, indexOf}
 use Rattle.slicing.proofs.Placing.{index-found}
 use Rattle.slicing.proofs.TurnLaws.{turn-ordered}
-use Rattle.stored.specs.inside.Packed.{facing}
-use Rattle.stored.proofs.StoredLists.{place-in}
+use Rattle.packed.specs.inside.Packed.{facing}
+use Rattle.packed.proofs.StoredLists.{place-in}
 use Rattle.laying.specs.inside.Taking.{HasLow}
 
 pub falling : (l : List Item) → Ordered l → (i j : ℕ) → i < j → j < length l → getD l j (size 0 0) .m < getD l i (size 0 0) .m

@@ -7,10 +7,10 @@ use Prim.Native.Nat.{ℕ, _+_, _-_, _/_, _≤_, _<_}
 use native.Mathlib.Omega.{arith}
 use lib.ListN.{length, getD}
 use Rattle.slicing.specs.Item.{Item, size}
-use Rattle.stored.specs.inside.Packed.{facing, HasList}
+use Rattle.packed.specs.inside.Packed.{facing, HasList}
+use Rattle.packed.proofs.Reading.{ItemWord}
+use Rattle.packed.proofs.StoredLists.{facing-length, facing-low, m-is}
 use Rattle.laying.specs.inside.Taking.{Searchable, FirstLow}
-use Rattle.stored.proofs.Reading.{ItemWord}
-use Rattle.stored.proofs.StoredLists.{facing-length, facing-low, m-is}
 use Rattle.laying.proofs.OrderLaws.{above-to, first-low, last-low, facing-ordered}
 
 -- The first item of at most the limit stands from low to high.

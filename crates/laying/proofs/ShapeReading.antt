@@ -9,12 +9,12 @@ use lib.ListN.{length, getD}
 use Rattle.slicing.specs.Item.{Item, size}
 use Rattle.slicing.specs.Tree.{Tree}
 use Rattle.slicing.specs.Shapes.{shapes}
-use Rattle.stored.specs.inside.Packed.{pack, ownShapes, HasList}
-use Rattle.stored.specs.inside.Store.{Stored}
+use Rattle.packed.specs.inside.Packed.{pack, HasList}
+use Rattle.packed.specs.declared.merge.Stretch.{Stretch}
+use Rattle.packed.proofs.Reading.{ItemWord}
+use Rattle.packed.proofs.StoredLists.{Low, facing-low}
+use Rattle.stored.specs.inside.Store.{ownShapes, Stored}
 use Rattle.stored.specs.inside.Filling.{stretchOf}
-use Rattle.stored.specs.declared.merge.Stretch.{Stretch}
-use Rattle.stored.proofs.Reading.{ItemWord}
-use Rattle.stored.proofs.StoredLists.{Low, facing-low}
 use Rattle.stored.proofs.OwnLists.{own-length}
 use Rattle.laying.specs.inside.Laying.{shapeAt}
 use Rattle.laying.proofs.StretchLaws.{stretch-ready, stretch-list, stretch-count, stretch-facing}

@@ -16,11 +16,11 @@ use Rattle.slicing.proofs.Depths.{depth-few}
 use Rattle.slicing.proofs.ShapeLaws.{shapes-ordered}
 use Rattle.slicing.proofs.TurnLaws.{turn-ordered}
 use Rattle.entries.specs.inside.Kinds.{kindOf, across}
-use Rattle.stored.specs.inside.Packed.{facing, ownShapes, HasList}
-use Rattle.stored.specs.inside.Store.{Stored}
-use Rattle.stored.specs.inside.Joining.{readAs}
+use Rattle.packed.specs.inside.Packed.{facing, HasList}
+use Rattle.packed.specs.inside.Joining.{readAs}
+use Rattle.packed.specs.declared.merge.Stretch.{Stretch}
+use Rattle.stored.specs.inside.Store.{ownShapes, Stored}
 use Rattle.stored.specs.inside.Filling.{stretchOf}
-use Rattle.stored.specs.declared.merge.Stretch.{Stretch}
 use Rattle.stored.proofs.OwnLists.{entry-of, own-beside, own-stacked, kind-low}
 use Rattle.laying.specs.inside.Taking.{joinKind}
 

@@ -11,11 +11,12 @@ use Rattle.slicing.specs.Tree.{Tree}
 use Rattle.slicing.specs.Shapes.{shapes}
 use Rattle.slicing.specs.Merge.{swap}
 use Rattle.slicing.specs.Fit.{noTaller}
-use Rattle.stored.specs.inside.Packed.{facing, ownShapes, HasList}
+use Rattle.packed.specs.inside.Packed.{facing, HasList}
+use Rattle.packed.specs.declared.merge.Stretch.{Stretch}
+use Rattle.packed.proofs.Reading.{turn-at, ItemWord}
+use Rattle.packed.proofs.StoredLists.{facing-length, facing-low, p-is}
+use Rattle.stored.specs.inside.Store.{ownShapes}
 use Rattle.stored.specs.inside.Filling.{stretchOf}
-use Rattle.stored.specs.declared.merge.Stretch.{Stretch}
-use Rattle.stored.proofs.Reading.{turn-at, ItemWord}
-use Rattle.stored.proofs.StoredLists.{facing-length, facing-low, p-is}
 use Rattle.stored.proofs.OwnLists.{own-length}
 use Rattle.laying.specs.inside.Taking.{HasLow, Searchable, FirstLow, facingItem, joinKind, Takable, Takes}
 use Rattle.laying.proofs.StretchLaws.{stretch-ready, stretch-list, stretch-count, stretch-facing, own-ordered}

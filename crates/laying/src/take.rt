@@ -3,12 +3,12 @@ ghost use mathlib.Core.Path.{_≡_};
 ghost use mathlib.Core.List.{List};
 ghost use Rattle.slicing.specs.Item.{Item};
 ghost use Rattle.slicing.specs.Tree.{Tree};
-ghost use Rattle.stored.specs.inside.Packed.{facing};
+ghost use Rattle.packed.specs.inside.Packed.{facing};
 ghost use Rattle.laying.specs.inside.Taking.{Searchable, FirstLow, joinKind, Takable, Takes};
+use packed::item::m_of;
+use packed::item::p_of;
+use packed::item::read_item;
 use stored::fill::stretch;
-use stored::item::m_of;
-use stored::item::p_of;
-use stored::item::read_item;
 
 // The place of an item in a part's shape list by height, and its length along the join.
 pub struct Taken {

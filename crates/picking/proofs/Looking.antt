@@ -12,10 +12,10 @@ use borrow.Author.Tests.{le-leb, lt-leb}
 use Rattle.slicing.specs.Item.{Item, size}
 use Rattle.slicing.specs.Fit.{fits}
 use Rattle.slicing.specs.Layout.{outline}
-use Rattle.stored.specs.inside.Packed.{pack, facing, HasList}
+use Rattle.packed.specs.inside.Packed.{pack, facing, HasList}
+use Rattle.packed.proofs.Reading.{ItemWord}
+use Rattle.packed.proofs.StoredLists.{facing-length, Low, facing-low, m-is, p-is}
 use Rattle.picking.specs.inside.Picking.{Picks}
-use Rattle.stored.proofs.Reading.{ItemWord}
-use Rattle.stored.proofs.StoredLists.{facing-length, Low, facing-low, m-is, p-is}
 use Rattle.picking.proofs.PickLaws.{rank, Standing, Narrow, standing-start, standing-past, standing-worse, standing-taken, standing-done}
 
 -- Of any list that stands there, the items from k on have been looked at.

@@ -5,11 +5,11 @@ ghost use Prim.Native.Nat.{_+_, _*_, _<_};
 ghost use lib.ListN.{length};
 ghost use Rattle.slicing.specs.Item.{Item};
 ghost use Rattle.slicing.specs.Layout.{outline};
-ghost use Rattle.stored.specs.inside.Packed.{facing, HasList};
+ghost use Rattle.packed.specs.inside.Packed.{facing, HasList};
 ghost use Rattle.picking.specs.inside.Picking.{Picks};
-use stored::item::m_of;
-use stored::item::p_of;
-use stored::item::read_item;
+use packed::item::m_of;
+use packed::item::p_of;
+use packed::item::read_item;
 
 // The place of an item in a list, if there is one.
 pub struct Picked {

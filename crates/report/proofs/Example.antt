@@ -8,7 +8,7 @@ use Rattle.slicing.specs.Shapes.{shapes}
 use Rattle.slicing.specs.Fit.{smallest, noTaller, indexOf, place}
 use Rattle.facefile.specs.Format.{faceOf}
 use Rattle.facefile.proofs.Example.{example as file, example-face}
-use Rattle.report.specs.Text.{facesText}
+use Rattle.rendering.specs.Text.{facesText}
 use Rattle.report.specs.Faces.{facesPrinted}
 
 -- The text that the document shows.

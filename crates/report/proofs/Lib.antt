@@ -1,7 +1,3 @@
-pub mod LineLaws
-pub mod Rows
-pub mod Bounds
-pub mod Faces
 pub mod Example
 pub mod Levelling
 pub mod Telling

@@ -25,8 +25,8 @@ use Rattle.shapes.proofs.WordLaws.{words-length as list-words-length}
 use Rattle.fit.specs.declared.Fitted.{Fitted}
 use Rattle.fit.specs.Fitting.{faceFound, faceWords}
 use Rattle.fit.specs.inside.Facing.{PlacedFace, PlacedIn}
-use Rattle.report.specs.Text.{facesText, refusedText}
-use Rattle.report.specs.Room.{textBytes}
+use Rattle.rendering.specs.Text.{facesText, refusedText}
+use Rattle.rendering.specs.Room.{textBytes}
 use Rattle.report.specs.Faces.{widest, pickPrinted, facesPrinted, FacesText}
 use Rattle.report.specs.inside.Telling.{Tallied, Levelled, Worked}
 use Rattle.report.proofs.Levelling.{sizes-most}

@@ -15,8 +15,8 @@ use Rattle.slicing.proofs.PartLists.{shapes-low}
 use Rattle.slicing.proofs.Picking.{nothing-within}
 use Rattle.facefile.specs.Format.{faceOf}
 use Rattle.facefile.proofs.Taken.{face-taken}
-use Rattle.stored.proofs.StoredLists.{place-in}
-use Rattle.report.specs.Text.{facesText}
+use Rattle.packed.proofs.StoredLists.{place-in}
+use Rattle.rendering.specs.Text.{facesText}
 use Rattle.report.specs.Faces.{widest, pickPrinted, facesPrinted}
 
 pub something-fits : (file : List ℕ) (t : Tree) → faceOf file ≡ taken t → smallest widest (shapes 0 t) ≡ nothing → ⊥

@@ -10,8 +10,8 @@ use Rattle.slicing.specs.Tree.{Tree}
 use Rattle.slicing.specs.Shapes.{shapes}
 use Rattle.slicing.specs.Layout.{Outline, outline}
 use Rattle.slicing.specs.Fit.{Pick, nothing, picked, smallest, place, words}
-use Rattle.report.specs.Text.{facesText, refusedText}
-use Rattle.report.specs.Room.{textBytes}
+use Rattle.rendering.specs.Text.{facesText, refusedText}
+use Rattle.rendering.specs.Room.{textBytes}
 
 -- The opening, 64,000 by 64,000.
 abbrev pub widest : Outline

@@ -1,4 +1,2 @@
-pub mod Text
-pub mod Room
 pub mod Faces
 pub mod inside

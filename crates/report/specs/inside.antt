@@ -1,2 +1,1 @@
-pub mod WordLines
 pub mod Telling

@@ -8,15 +8,15 @@ ghost use Rattle.slicing.specs.Tree.{Tree};
 ghost use Rattle.slicing.specs.Shapes.{shapes as shapesOf};
 ghost use Rattle.slicing.specs.Fit.{smallest};
 ghost use Rattle.facefile.specs.Format.{faceOf};
-ghost use Rattle.report.specs.Room.{textBytes};
+ghost use Rattle.rendering.specs.Room.{textBytes};
 ghost use Rattle.report.specs.Faces.{widest, pickPrinted, facesPrinted, FacesText};
 ghost use Rattle.report.specs.inside.Telling.{Tallied, Levelled, Worked};
 use crate::TEXT;
-use crate::render::render;
-use crate::render::render_refused;
 use checks::limits::SIZES;
 use checks::limits::WORDS;
 use fit::Fitted;
+use rendering::render::render;
+use rendering::render::render_refused;
 
 // The height and the width of the opening.
 const OPENING: u32 = 64_000;

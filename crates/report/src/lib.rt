@@ -1,7 +1,5 @@
 // The text that the program `faces` prints, as bytes in a lent buffer.
 mod face;
-mod lines;
-mod render;
 
 pub use face::faces_text;
 

@@ -7,7 +7,7 @@ use native.Mathlib.Omega.{arith}
 use lib.ListN.{length, getD, set, length-set}
 use lib.Seq.{lt-length-set, getD-set-same, getD-set-other}
 use Rattle.slicing.specs.Item.{Item}
-use Rattle.stored.specs.inside.Packed.{HasList}
+use Rattle.packed.specs.inside.Packed.{HasList}
 use Rattle.stored.specs.inside.Filling.{entryAt, Added}
 
 -- Each of the four words is inside.

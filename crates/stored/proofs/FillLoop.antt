@@ -25,8 +25,7 @@ use Rattle.facefile.specs.inside.Walk.{firstEntry, Walk, sizeBytesOf, GaugeAt, 
 use Rattle.entries.proofs.SizesIn.{in-length}
 use Rattle.facefile.proofs.WalkSteps.{walk-start, walk-end, found-gauge, found-join}
 use Rattle.facefile.proofs.WalkStack.{walk-good, walk-gauges, walk-face, join-good, join-gauges}
-use Rattle.stored.specs.inside.Packed.{ownShapes}
-use Rattle.stored.specs.inside.Store.{Entry, Stored}
+use Rattle.stored.specs.inside.Store.{ownShapes, Entry, Stored}
 use Rattle.stored.specs.inside.Filling.{Between, Lies, Added, Rows, Fillable, Filled}
 use Rattle.stored.specs.inside.Adding.{Room, JoinRoom}
 use Rattle.stored.proofs.OwnLists.{entry-of, own-length, own-few, cut-gauges, cut-short}

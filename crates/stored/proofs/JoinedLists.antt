@@ -9,13 +9,13 @@ use lib.ListN.{length, getD}
 use Rattle.slicing.specs.Item.{Item}
 use Rattle.slicing.specs.Tree.{Tree, gaugeCount}
 use Rattle.entries.specs.inside.Kinds.{kindOf, across}
-use Rattle.stored.specs.inside.Packed.{ownShapes, HasList}
-use Rattle.stored.specs.inside.Store.{Entry}
-use Rattle.stored.specs.inside.Joining.{mergeOf, Joinable, Joined}
+use Rattle.packed.specs.inside.Packed.{HasList}
+use Rattle.packed.specs.inside.Joining.{mergeOf, Joinable, Joined}
+use Rattle.packed.specs.declared.merge.Stretch.{Stretch}
+use Rattle.packed.proofs.Merging.{sums-low}
+use Rattle.stored.specs.inside.Store.{ownShapes, Entry}
 use Rattle.stored.specs.inside.Filling.{entryAt, stretchOf, Added}
 use Rattle.stored.specs.inside.Adding.{JoinRoom}
-use Rattle.stored.specs.declared.merge.Stretch.{Stretch}
-use Rattle.stored.proofs.Merging.{sums-low}
 use Rattle.stored.proofs.EntryLaws.{entry-added}
 use Rattle.stored.proofs.OwnLists.{own-merge, own-low, own-filled, kind-low, cut-short}
 

@@ -1,10 +1,3 @@
-pub mod Reading
-pub mod StoredLists
-pub mod MergeTurns
-pub mod Merging
-pub mod Places
-pub mod Walking
-pub mod HeldWords
 pub mod EntryLaws
 pub mod Packing
 pub mod OwnLists

@@ -15,8 +15,8 @@ use Rattle.slicing.proofs.ShapeLaws.{shapes-filled, shapes-short}
 use Rattle.slicing.proofs.TurnLaws.{turn-turn, turn-length, turn-out}
 use Rattle.slicing.proofs.PartLists.{shapes-low}
 use Rattle.entries.specs.inside.Kinds.{kindOf, across, Cut, cut-beside, cut-stacked}
-use Rattle.stored.specs.inside.Packed.{facing, ownShapes}
-use Rattle.stored.specs.inside.Store.{Entry, Stored}
+use Rattle.packed.specs.inside.Packed.{facing}
+use Rattle.stored.specs.inside.Store.{ownShapes, Entry, Stored}
 
 pub entry-of : (s : List ℕ) (e : ℕ) (t : Tree) → Stored s e t → Entry s e (kindOf t) (gaugeCount t) (ownShapes t)
 entry-of s e (gauge z) h = h

@@ -11,10 +11,10 @@ use Rattle.slicing.specs.Item.{Item, size}
 use Rattle.entries.specs.declared.Size.{Size}
 use Rattle.entries.specs.inside.Sizes.{sizesIn, SizeIn}
 use Rattle.entries.proofs.SizesIn.{in-length}
-use Rattle.stored.specs.inside.Packed.{pack, HasList}
+use Rattle.packed.specs.inside.Packed.{pack, HasList}
+use Rattle.packed.proofs.StoredLists.{has-grown}
 use Rattle.stored.specs.inside.Filling.{entryAt, Added}
 use Rattle.stored.specs.inside.Adding.{Room}
-use Rattle.stored.proofs.StoredLists.{has-grown}
 use Rattle.stored.proofs.EntryLaws.{entry-added}
 
 -- What the loop keeps: the first k sizes stand.

@@ -13,8 +13,8 @@ use Rattle.slicing.proofs.Counts.{counted}
 use Rattle.slicing.proofs.Stored.{storedItems, stored-few}
 use Rattle.entries.specs.inside.Tracking.{flat}
 use Rattle.facefile.proofs.Taken.{GoodParts}
-use Rattle.stored.specs.inside.Packed.{ownShapes, HasList}
-use Rattle.stored.specs.inside.Store.{Entry, Stored}
+use Rattle.packed.specs.inside.Packed.{HasList}
+use Rattle.stored.specs.inside.Store.{ownShapes, Entry, Stored}
 use Rattle.stored.specs.inside.Filling.{Between, Lies, Rows}
 
 module _ (s z : List ℕ) (e to up : ℕ) (long : length z ≡ length s) (table : (i : ℕ) → i < 4 * e → getD z i 0 ≡ getD s i 0) (lists : (i : ℕ) → 508 ≤ i → i < to → getD z i 0 ≡ getD s i 0) (after : to ≤ up) where

@@ -6,12 +6,10 @@ ghost use Rattle.checks.specs.Answer.{taken};
 ghost use Rattle.slicing.specs.Tree.{Tree, gaugeCount};
 ghost use Rattle.facefile.specs.Format.{faceOf};
 ghost use Rattle.entries.specs.inside.Sizes.{sizesIn, Sized};
-ghost use Rattle.stored.specs.inside.Packed.{ownShapes, HasList};
+ghost use Rattle.packed.specs.inside.Packed.{HasList};
+ghost use Rattle.stored.specs.inside.Store.{ownShapes};
 ghost use Rattle.stored.specs.inside.Filling.{entryAt, stretchOf, Added, Fillable, Filled};
 ghost use Rattle.stored.specs.inside.Adding.{Room, JoinRoom};
-use crate::item::packed;
-use crate::merge::Stretch;
-use crate::merge::merge_lists;
 use crate::table::COUNT;
 use crate::table::FROM;
 use crate::table::GAUGES;
@@ -21,6 +19,9 @@ use entries::size_in;
 use facefile::walk::Entry;
 use facefile::walk::FIRST_ENTRY;
 use facefile::walk::entry_at;
+use packed::item::packed;
+use packed::merge::Stretch;
+use packed::merge::merge_lists;
 
 // The words of the table, four a part. The lists follow it.
 const TABLE: usize = 508;

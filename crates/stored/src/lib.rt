@@ -1,5 +1,3 @@
 // The shape lists of every part of a face, in a lent scratch: one word an item.
 pub mod fill;
-pub mod item;
-mod merge;
 pub mod table;

@@ -10,7 +10,7 @@ use Rattle.slicing.specs.Good.{Ordered, Good}
 use Rattle.slicing.specs.Merge.{swap}
 use Rattle.slicing.specs.Shapes.{shapes}
 use Rattle.slicing.specs.Fit.{noTaller}
-use Rattle.stored.specs.inside.Packed.{facing, HasList}
+use Rattle.packed.specs.inside.Packed.{facing, HasList}
 use Rattle.stored.specs.inside.Store.{Stored}
 
 -- Some item of the list has an m of at most the limit.

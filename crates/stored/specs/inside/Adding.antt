@@ -6,8 +6,7 @@ use Rattle.checks.specs.Limits.{bufferWords}
 use Rattle.slicing.specs.Tree.{Tree, gaugeCount}
 use Rattle.slicing.specs.Good.{Good}
 use Rattle.entries.specs.inside.Kinds.{kindOf, Cut}
-use Rattle.stored.specs.inside.Packed.{ownShapes}
-use Rattle.stored.specs.inside.Store.{Entry}
+use Rattle.stored.specs.inside.Store.{ownShapes, Entry}
 use Rattle.stored.specs.inside.Filling.{Between}
 
 -- There is room for part e and for n items from the place `to` on.

@@ -9,9 +9,8 @@ use Rattle.slicing.specs.Item.{Item}
 use Rattle.slicing.specs.Tree.{Tree, gauge, beside, stacked, gaugeCount}
 use Rattle.facefile.specs.Format.{faceOf}
 use Rattle.entries.specs.inside.Kinds.{across}
-use Rattle.stored.specs.inside.Packed.{ownShapes}
-use Rattle.stored.specs.inside.Store.{Entry, Stored}
-use Rattle.stored.specs.declared.merge.Stretch.{Stretch}
+use Rattle.packed.specs.declared.merge.Stretch.{Stretch}
+use Rattle.stored.specs.inside.Store.{ownShapes, Entry, Stored}
 
 -- The scratch with the four words of part e.
 unfoldable pub entryAt : List ℕ → ℕ → ℕ → ℕ → ℕ → ℕ → List ℕ

@@ -5,7 +5,16 @@ use Prim.Native.Nat.{ℕ, _+_, _*_, _-_, _≤_, _<_}
 use lib.ListN.{length, getD}
 use Rattle.slicing.specs.Item.{Item}
 use Rattle.slicing.specs.Tree.{Tree, gauge, beside, stacked, gaugeCount}
-use Rattle.stored.specs.inside.Packed.{ownShapes, HasList}
+use Rattle.slicing.specs.Merge.{turn}
+use Rattle.slicing.specs.Shapes.{shapes}
+use Rattle.entries.specs.inside.Kinds.{kindOf}
+use Rattle.packed.specs.inside.Packed.{HasList}
+
+-- The shape list of a part as it is stored: by height for a gauge and side by side, by width for stacked.
+unfoldable pub ownShapes : Tree → List Item
+ownShapes (gauge s) = shapes 0 (gauge s)
+ownShapes (beside a b) = shapes 0 (beside a b)
+ownShapes (stacked a b) = turn (shapes 0 (stacked a b))
 
 -- Part e, counted from 0 as its last entry stands in the file, has four words of the table: where its list starts, its length, its kind and its gauges.
 pub record Entry (s : List ℕ) (e kind gauges : ℕ) (l : List Item) : Type 0 where
@@ -17,12 +26,12 @@ pub record Entry (s : List ℕ) (e kind gauges : ℕ) (l : List Item) : Type 0 w
 
 -- A part of g gauges has 2 g - 1 entries. The newer part of a join is the one before it, and the older is the one before all entries of the newer.
 abbrev pub Stored : List ℕ → ℕ → Tree → Type 0
-Stored s e (gauge z) = Entry s e 0x01 1 (ownShapes (gauge z))
+Stored s e (gauge z) = Entry s e (kindOf (gauge z)) 1 (ownShapes (gauge z))
 Stored s e (beside a b) =
-    Entry s e 0x02 (gaugeCount (beside a b)) (ownShapes (beside a b)) × (2 * gaugeCount (beside a b) ≤ e + 2)
+    Entry s e (kindOf (beside a b)) (gaugeCount (beside a b)) (ownShapes (beside a b)) × (2 * gaugeCount (beside a b) ≤ e + 2)
     × Stored s (e - 1) b
     × Stored s (e - 2 * gaugeCount b) a
 Stored s e (stacked a b) =
-    Entry s e 0x03 (gaugeCount (stacked a b)) (ownShapes (stacked a b)) × (2 * gaugeCount (stacked a b) ≤ e + 2)
+    Entry s e (kindOf (stacked a b)) (gaugeCount (stacked a b)) (ownShapes (stacked a b)) × (2 * gaugeCount (stacked a b) ≤ e + 2)
     × Stored s (e - 1) b
     × Stored s (e - 2 * gaugeCount b) a
