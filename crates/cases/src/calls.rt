@@ -1,33 +1,18 @@
 // The call of a letter.
 ghost use Prim.Native.Nat.{_≤_};
 ghost use lib.ListN.{length};
-use crate::fitting::call_fit;
-use crate::listing::call_list;
-use crate::listing::call_read;
-use crate::listing::call_words;
-use crate::number::Numbers;
-use crate::number::at_most;
-use crate::print::put;
-use crate::print::put_bytes;
-use crate::print::put_word;
-use crate::rooms::TEXT;
-use crate::rooms::WORDS;
-use crate::rooms::text_room;
-use crate::shown::show_text;
-
-fn call_levels(file: &[u8], levels: &mut [u8]) {
-    let number = levels::fill(file, levels);
-    put_word(b"levels ", number);
-    put(b" ");
-    put_bytes(levels);
-    put(b"\n");
-}
-
-fn call_gauge(file: &[u8], gauge: u32) {
-    put(b"gauge ");
-    put_bytes(facefile::gauge_bytes(file, gauge));
-    put(b"\n");
-}
+use crate::lending::lend;
+use caseline::number::Numbers;
+use caseline::number::at_most;
+use listing::call_read;
+use listing::call_words;
+use shown::buffers::show_text;
+use shown::byte_calls::call_gauge;
+use shown::byte_calls::call_levels;
+use shown::print::put;
+use shown::rooms::TEXT;
+use shown::rooms::WORDS;
+use shown::rooms::text_room;
 
 fn text(file: &[u8], room: &mut [u8]) {
     let length = report::faces_text(file, room);
@@ -46,10 +31,8 @@ fn call_text(file: &[u8], bytes: usize)
 fn call_arena(letter: u8, text: &[u8], file: &[u8], levels: &[u8], numbers: Numbers)
     requires { ⌜ numbers .end ≤ length (now text) ⌝ }
 {
-    if letter == b'l' {
-        call_list(file, levels, numbers);
-    } else if letter == b'f' {
-        call_fit(file, levels, numbers);
+    if letter == b'l' || letter == b'f' {
+        lend(letter, file, levels, numbers);
     } else if letter == b'r' {
         call_read(text, file, levels, numbers);
     } else {

@@ -2,12 +2,12 @@
 ghost use Prim.Native.Nat.{_≤_};
 ghost use lib.ListN.{length};
 use crate::calls::call;
-use crate::hex::decode;
-use crate::number::numbers_at;
-use crate::print::put;
-use crate::print::put_count;
-use crate::print::put_word;
-use crate::rooms::levels_room;
+use caseline::hex::decode;
+use caseline::number::numbers_at;
+use shown::print::put;
+use shown::print::put_count;
+use shown::print::put_word;
+use shown::rooms::levels_room;
 
 // The place after the colon of a name, or the end of a text that has none.
 fn name_end(text: &[u8]) -> usize

@@ -1,17 +1,10 @@
 // The fit call.
-use crate::kept::show_all_kept;
-use crate::kept::show_output_kept;
-use crate::number::Numbers;
-use crate::number::at_most;
-use crate::print::put;
-use crate::print::put_word;
-use crate::rooms::OUTPUT;
-use crate::rooms::UNTOUCHED;
-use crate::rooms::WORDS;
-use crate::rooms::output_room;
-use crate::rooms::words_room;
-use crate::shown::show_list;
-use crate::shown::show_output;
+use shown::buffers::show_output;
+use shown::kept::show_all_kept;
+use shown::kept::show_output_kept;
+use shown::list::show_list;
+use shown::print::put;
+use shown::print::put_word;
 
 // The number and the fields of an answer.
 fn put_answer(fitted: fit::Fitted) {
@@ -47,7 +40,8 @@ fn show_fitted(fitted: fit::Fitted, file: &[u8], arena: &[u32], scratch: &[u32],
     }
 }
 
-fn fitted(
+// The fit call in the buffers that are lent.
+pub fn call_fit(
     file: &[u8],
     levels: &[u8],
     height: u32,
@@ -58,22 +52,4 @@ fn fitted(
 ) {
     let fitted = fit::fit(file, levels, height, width, arena, scratch, output);
     show_fitted(fitted, file, arena, scratch, output);
-}
-
-pub fn call_fit(file: &[u8], levels: &[u8], numbers: Numbers) {
-    let mut arena = words_room(UNTOUCHED);
-    let mut scratch = words_room(UNTOUCHED);
-    let mut output = output_room();
-    let arena_words = at_most(numbers.arena, WORDS);
-    let scratch_words = at_most(numbers.scratch, WORDS);
-    let output_words = at_most(numbers.output, OUTPUT);
-    fitted(
-        file,
-        levels,
-        numbers.height,
-        numbers.width,
-        &mut arena[..arena_words],
-        &mut scratch[..scratch_words],
-        &mut output[..output_words],
-    );
 }

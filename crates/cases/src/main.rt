@@ -36,19 +36,11 @@
 mod calls;
 mod case;
 mod fitting;
-mod hex;
-mod kept;
-mod listing;
-mod number;
-mod print;
-mod rooms;
-mod shown;
-mod sum;
-mod words;
+mod lending;
 
 ghost use Prim.Native.Nat.{_≤_};
-use crate::number::at_most;
-use crate::number::number_at;
+use caseline::number::at_most;
+use caseline::number::number_at;
 use libc::STDIN_FILENO;
 
 // The most cases of a run. A loop has to end, and an input need not.

@@ -1,0 +1,36 @@
+// The words of an arena that a case replaces.
+ghost use Prim.Native.Nat.{_≤_};
+ghost use lib.ListN.{length};
+use crate::number::at_most;
+use crate::number::number_at;
+
+// Sets a word, where there is one.
+fn set(words: &mut [u32], at: usize, value: u32) {
+    if at < words.len() {
+        words[at] = value;
+    }
+}
+
+// The place after a word, and past every arena the same place.
+fn next_place(at: usize) -> usize {
+    if at < 20_000 { at + 1 } else { 20_000 }
+}
+
+// Replaces the words of an arena that a text names from a place on.
+pub fn replace_words(text: &[u8], start: usize, arena: &mut [u32])
+    requires { ⌜ start ≤ length (now text) ⌝ }
+{
+    let mut at = start;
+    let mut place = 0;
+    while at < text.len() {
+        let sign = text[at];
+        let number = number_at(text, at + 1);
+        if sign == b'@' {
+            place = at_most(number.value, 20_000);
+        } else if sign == b' ' {
+            set(arena, place, number.value);
+            place = next_place(place);
+        }
+        at = number.end;
+    }
+}

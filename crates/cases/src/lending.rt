@@ -1,0 +1,54 @@
+// The calls that are lent an arena, a scratch and an output.
+use crate::fitting::call_fit;
+use caseline::number::Numbers;
+use caseline::number::at_most;
+use listing::call_list;
+use shown::rooms::OUTPUT;
+use shown::rooms::UNTOUCHED;
+use shown::rooms::WORDS;
+use shown::rooms::output_room;
+use shown::rooms::words_room;
+
+// The list call, or the fit call where the letter is another.
+fn call_lent(
+    letter: u8,
+    file: &[u8],
+    levels: &[u8],
+    numbers: Numbers,
+    arena: &mut [u32],
+    scratch: &mut [u32],
+    output: &mut [u32],
+) {
+    if letter == b'l' {
+        call_list(file, levels, arena, scratch, output);
+    } else {
+        call_fit(
+            file,
+            levels,
+            numbers.height,
+            numbers.width,
+            arena,
+            scratch,
+            output,
+        );
+    }
+}
+
+// Makes it with so many words of each buffer as the numbers say.
+pub fn lend(letter: u8, file: &[u8], levels: &[u8], numbers: Numbers) {
+    let mut arena = words_room(UNTOUCHED);
+    let mut scratch = words_room(UNTOUCHED);
+    let mut output = output_room();
+    let arena_words = at_most(numbers.arena, WORDS);
+    let scratch_words = at_most(numbers.scratch, WORDS);
+    let output_words = at_most(numbers.output, OUTPUT);
+    call_lent(
+        letter,
+        file,
+        levels,
+        numbers,
+        &mut arena[..arena_words],
+        &mut scratch[..scratch_words],
+        &mut output[..output_words],
+    );
+}
