@@ -10,8 +10,8 @@ use Rattle.text.specs.Printing.{Printed, Counted}
 use Rattle.text.specs.inside.Appending.{Appended}
 use Rattle.text.proofs.Appends.{same-bytes, joined, from-start, counted}
 use Rattle.slicing.specs.Item.{Item, height, width}
-use Rattle.shapes.specs.Listing.{listWords}
-use Rattle.shapes.proofs.WordLaws.{words-length}
+use Rattle.writing.specs.Words.{listWords}
+use Rattle.writing.proofs.WordLaws.{words-length}
 use Rattle.rendering.specs.Text.{facesWord, refusedWord, itemLine, itemLines, bestLine, gaugeLines, facesText, refusedText}
 use Rattle.rendering.specs.Room.{textBytes, refusedBytes}
 use Rattle.rendering.specs.inside.WordLines.{wordLines}

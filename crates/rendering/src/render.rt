@@ -5,7 +5,7 @@ ghost use Prim.Native.Nat.{_*_, _≤_};
 ghost use lib.ListN.{length};
 ghost use Rattle.text.specs.Printing.{Printed, Counted};
 ghost use Rattle.slicing.specs.Item.{Item};
-ghost use Rattle.shapes.specs.Listing.{listWords};
+ghost use Rattle.writing.specs.Words.{listWords};
 ghost use Rattle.rendering.specs.Text.{facesText, refusedText};
 ghost use Rattle.rendering.specs.Room.{textBytes, refusedBytes};
 use crate::lines::write_best;

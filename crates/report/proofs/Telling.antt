@@ -19,9 +19,9 @@ use Rattle.facefile.specs.Summary.{summary}
 use Rattle.facefile.proofs.Answered.{answer-taken, answer-refused}
 use Rattle.facefile.proofs.Taken.{face-taken}
 use Rattle.lent.specs.Lent.{writtenOver}
-use Rattle.shapes.specs.Listing.{listWords}
+use Rattle.writing.specs.Words.{listWords}
 use Rattle.shapes.specs.inside.Taken.{Wrote, WroteFace}
-use Rattle.shapes.proofs.WordLaws.{words-length as list-words-length}
+use Rattle.writing.proofs.WordLaws.{words-length as list-words-length}
 use Rattle.fit.specs.declared.Fitted.{Fitted}
 use Rattle.fit.specs.Fitting.{faceFound, faceWords}
 use Rattle.fit.specs.inside.Facing.{PlacedFace, PlacedIn}

@@ -22,7 +22,7 @@ use Rattle.arena.specs.Lazy.{nextWith, lastWith, sumFrom, trueP, held, walk, li
 use Rattle.maxplus.specs.declared.Reading.{Reading}
 use Rattle.maxplus.specs.Read.{readItem, reading}
 use Rattle.lent.specs.Lent.{writtenOver}
-use Rattle.shapes.specs.Listing.{listWords}
+use Rattle.writing.specs.Words.{listWords}
 use Rattle.fit.specs.declared.Fitted.{Fitted}
 use Rattle.fit.specs.Fitting.{noFace, fitted, fitOutput}
 

@@ -19,9 +19,10 @@ use Rattle.facefile.proofs.Taken.{face-taken}
 use Rattle.lent.specs.Lent.{Lent, writtenOver}
 use Rattle.lent.proofs.Calling.{call-taken}
 use Rattle.shapes.specs.declared.Listed.{Listed}
-use Rattle.shapes.specs.Listing.{listAsks, listWords, listCall, ListLeaves, ListPromise}
+use Rattle.shapes.specs.Listing.{listAsks, listCall, ListLeaves, ListPromise}
+use Rattle.writing.specs.Words.{listWords}
 use Rattle.shapes.specs.Demand2.{asHeld, ListMeans, ListsAlike}
-use Rattle.shapes.proofs.WordLaws.{words-length}
+use Rattle.writing.proofs.WordLaws.{words-length}
 
 -- The items of the arena's list are the outer sizes.
 held-list : (t : Tree) → items (partRecorded 0 1 t) ≡ asHeld t (shapes 0 t)

@@ -26,8 +26,9 @@ use Rattle.entries.specs.inside.Kinds.{kindOf}
 use Rattle.parts.specs.inside.Building.{Whole}
 use Rattle.parts.proofs.PartLaws.{part-length}
 use Rattle.lent.specs.Lent.{writtenOver}
-use Rattle.shapes.specs.Listing.{listWords, RootList}
-use Rattle.shapes.specs.inside.Writing.{Listable}
+use Rattle.shapes.specs.Listing.{RootList}
+use Rattle.writing.specs.Words.{listWords}
+use Rattle.writing.specs.inside.Writing.{Listable}
 use Rattle.shapes.specs.inside.Taken.{Writable, WroteFace, Wrote}
 
 by-height : (t : Tree) → (kindOf t ≡ 0x03 → ⊥) → items (partRecorded 0 1 t) ≡ shapes 0 t

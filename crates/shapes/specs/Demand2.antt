@@ -13,7 +13,8 @@ use Rattle.slicing.specs.Demand2.{OuterSizes}
 use Rattle.arena.specs.Lazy.{lazyList}
 use Rattle.lent.specs.Lent.{Lent, writtenOver}
 use Rattle.shapes.specs.declared.Listed.{Listed}
-use Rattle.shapes.specs.Listing.{listWords, RootList}
+use Rattle.shapes.specs.Listing.{RootList}
+use Rattle.writing.specs.Words.{listWords}
 
 -- The outer sizes of a face as they run in the arena: turned where the root is stacked.
 abbrev pub asHeld : Tree → List Item → List Item

@@ -1,11 +1,10 @@
 -- Document 01's list call: its checks, what it answers, and what it leaves in the lent buffers.
 use mathlib.Core.Path.{_≡_}
-use mathlib.Core.List.{List, [], _∷_, List·Memᴰ}
+use mathlib.Core.List.{List, List·Memᴰ}
 use Prim.Native.Nat.{ℕ, _+_, _*_, _-_}
 use lib.ListN.{length, getD}
 use Rattle.checks.specs.Limits.{bufferWords}
 use Rattle.checks.specs.Answer.{Answer, refused, taken, Asked, also, number, outcome}
-use Rattle.slicing.specs.Item.{Item, height, width}
 use Rattle.slicing.specs.Tree.{Tree, gaugeCount, sizeCount}
 use Rattle.slicing.specs.Shapes.{shapes}
 use Rattle.slicing.specs.Recorded.{Recorded, partRecorded}
@@ -14,6 +13,7 @@ use Rattle.lent.specs.Questions.{levelsLent, buffersLent, outputLent}
 use Rattle.lent.specs.Call.{callOn, FreeAfter}
 use Rattle.arena.specs.Arena.{level}
 use Rattle.arena.specs.Lazy.{lazyList}
+use Rattle.writing.specs.Words.{listWords}
 use Rattle.shapes.specs.declared.Listed.{Listed}
 
 -- Of a face of n sizes and g gauges, with buffers of so many words: "As many levels as sizes? 14. Each level 1 to 8? 15." "Arena and scratch, each 16,384 32-bit words or more? 17. Output long enough? 18. The list call needs 2(n - g + 1) words".
@@ -30,11 +30,6 @@ listCall face levels old =
 -- It "returns the item count", 0 where it is not taken.
 abbrev pub listed : Answer Tree → Listed
 listed r = record { number = number r; count = outcome r 0 (λ t. length (shapes 0 t)) }
-
--- Height, width for each item.
-unfoldable pub listWords : List Item → List ℕ
-listWords [] = []
-listWords (z ∷ l) = height z ∷ width z ∷ listWords l
 
 -- It "writes height, width for each item from the output's start, leaves later words".
 abbrev pub listOutput : Answer Tree → List ℕ → List ℕ

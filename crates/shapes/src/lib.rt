@@ -1,6 +1,5 @@
 // The list of outer sizes of a face: the list call.
 mod listing;
-mod write;
 
 pub use listing::list;
 pub use listing::write_list;

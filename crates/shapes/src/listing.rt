@@ -8,10 +8,10 @@ ghost use Rattle.lent.specs.Lent.{lent};
 ghost use Rattle.shapes.specs.Listing.{listAsks, ListPromise};
 ghost use Rattle.shapes.specs.inside.Taken.{Writable, Wrote};
 use crate::Listed;
-use crate::write::write_by_height;
-use crate::write::write_by_width;
 use checks::limits::WORDS;
 use parts::build::build;
+use writing::write::write_by_height;
+use writing::write::write_by_width;
 
 // Checks 14 to 18, of the levels and of the lengths of the lent buffers: the number of the first that fails, or 0.
 fn asked_number(

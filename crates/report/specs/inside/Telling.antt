@@ -9,7 +9,7 @@ use Rattle.slicing.specs.Tree.{Tree, gaugeCount, sizeCount}
 use Rattle.slicing.specs.Shapes.{shapes}
 use Rattle.slicing.specs.Fit.{picked, smallest, place, words}
 use Rattle.facefile.specs.Format.{faceOf}
-use Rattle.shapes.specs.Listing.{listWords}
+use Rattle.writing.specs.Words.{listWords}
 use Rattle.fit.specs.declared.Fitted.{Fitted}
 use Rattle.fit.specs.Fitting.{faceFound}
 use Rattle.report.specs.Faces.{widest}

@@ -9,7 +9,8 @@ use Rattle.slicing.specs.Shapes.{shapes}
 use Rattle.facefile.specs.Format.{faceOf}
 use Rattle.parts.specs.inside.Building.{Buildable}
 use Rattle.lent.specs.Lent.{writtenOver}
-use Rattle.shapes.specs.Listing.{listWords, RootList}
+use Rattle.shapes.specs.Listing.{RootList}
+use Rattle.writing.specs.Words.{listWords}
 
 pub record Writable (file levels a out : List ℕ) : Type 0 where
   pub ready : Buildable file levels a

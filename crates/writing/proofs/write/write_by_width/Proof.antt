@@ -1,12 +1,12 @@
--- `shapes::write::write_by_width` meets its contract.
+-- `writing::write::write_by_width` meets its contract.
 -- The loop keeps `Widths`, that the items left, turned and written before the place reached, give what all give; the measure is the number of the records left, counted along the first link.
 use borrow.Author.Needs.{needs}
 use Rattle.arena.proofs.Walking.{count}
-use Rattle.shapes.proofs.ListWalk.{walk-less, walk-has}
-use Rattle.shapes.proofs.Heights.{head-enterable}
-use Rattle.shapes.proofs.Widths.{Widths, listed-countable, counted-room, widths-start, widths-summable, widths-two, widths-room, widths-more, widths-done}
-use Rattle.shapes.proofs.write.write_by_width.Statement.{statement}
-use Rattle.shapes.proofs.write.write_by_width.Tie as tie
+use Rattle.writing.proofs.ListWalk.{walk-less, walk-has}
+use Rattle.writing.proofs.Heights.{head-enterable}
+use Rattle.writing.proofs.Widths.{Widths, listed-countable, counted-room, widths-start, widths-summable, widths-two, widths-room, widths-more, widths-done}
+use Rattle.writing.proofs.write.write_by_width.Statement.{statement}
+use Rattle.writing.proofs.write.write_by_width.Tie as tie
 
 abbrev Inv-loop : tie.InvT-loop
 Inv-loop arena head output₀ number sums₀ next₀ at₀ output sums next at = Widths arena head output₀ output sums next at

@@ -14,11 +14,11 @@ use Rattle.arena.specs.inside.Chain.{pUnder, after, trues}
 use Rattle.arena.specs.inside.Sums.{Suffixes, Summable, Enterable, TrueP, Renewed}
 use Rattle.arena.specs.inside.Carried.{carried}
 use Rattle.lent.specs.Lent.{writtenOver}
-use Rattle.shapes.specs.Listing.{listWords}
-use Rattle.shapes.specs.inside.Writing.{Listable, itemAt}
-use Rattle.shapes.proofs.ListWalk.{Walk, walk-start, walk-summable, walk-know, walk-more, walk-done}
-use Rattle.shapes.proofs.WordLaws.{words-length, over-sets, sets-more, length-item}
-use Rattle.shapes.proofs.ItemLaws.{itemsOf, items-first, items-length, items-held}
+use Rattle.writing.specs.Words.{listWords}
+use Rattle.writing.specs.inside.Writing.{Listable, itemAt}
+use Rattle.writing.proofs.ListWalk.{Walk, walk-start, walk-summable, walk-know, walk-more, walk-done}
+use Rattle.writing.proofs.WordLaws.{words-length, over-sets, sets-more, length-item}
+use Rattle.writing.proofs.ItemLaws.{itemsOf, items-first, items-length, items-held}
 
 -- The items of qs are left to write from the place `at`, of those of rs, and the words hold the sums f that lead to them.
 pub record Onward (a : List ℕ) (h : ℕ) (old out sums : List ℕ) (at : ℕ) (rs qs : List ℕ) : Type 0 where

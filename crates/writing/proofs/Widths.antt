@@ -15,11 +15,11 @@ use Rattle.arena.specs.inside.Chain.{pUnder, after, trues}
 use Rattle.arena.specs.inside.Sums.{Suffixes, Summable, TrueP, Renewed}
 use Rattle.arena.specs.inside.Carried.{carried}
 use Rattle.lent.specs.Lent.{writtenOver}
-use Rattle.shapes.specs.Listing.{listWords}
-use Rattle.shapes.specs.inside.Writing.{Countable, Counts, Listable, itemAt}
-use Rattle.shapes.proofs.ListWalk.{Walk, walk-start, walk-summable, walk-know, walk-more, walk-done}
-use Rattle.shapes.proofs.WordLaws.{words-length, turned-words, over-more, length-item}
-use Rattle.shapes.proofs.ItemLaws.{itemsOf, items-first, items-length, items-held}
+use Rattle.writing.specs.Words.{listWords}
+use Rattle.writing.specs.inside.Writing.{Countable, Counts, Listable, itemAt}
+use Rattle.writing.proofs.ListWalk.{Walk, walk-start, walk-summable, walk-know, walk-more, walk-done}
+use Rattle.writing.proofs.WordLaws.{words-length, turned-words, over-more, length-item}
+use Rattle.writing.proofs.ItemLaws.{itemsOf, items-first, items-length, items-held}
 
 -- The words of the turned items of rs, entered with the sums f.
 abbrev turnedWords : List ℕ → (ℕ → ℕ) → List ℕ → List ℕ

@@ -1,11 +1,11 @@
--- `shapes::write::write_by_height` meets its contract.
+-- `writing::write::write_by_height` meets its contract.
 -- The loop keeps `Heights`, that the items left, written from the place reached, give what all give from the start; the measure is the number of the records left, counted along the first link.
 use borrow.Author.Needs.{needs}
 use Rattle.arena.proofs.Walking.{count}
-use Rattle.shapes.proofs.ListWalk.{walk-less, walk-has}
-use Rattle.shapes.proofs.Heights.{Heights, head-enterable, heights-start, heights-summable, heights-room, heights-more, heights-done}
-use Rattle.shapes.proofs.write.write_by_height.Statement.{statement}
-use Rattle.shapes.proofs.write.write_by_height.Tie as tie
+use Rattle.writing.proofs.ListWalk.{walk-less, walk-has}
+use Rattle.writing.proofs.Heights.{Heights, head-enterable, heights-start, heights-summable, heights-room, heights-more, heights-done}
+use Rattle.writing.proofs.write.write_by_height.Statement.{statement}
+use Rattle.writing.proofs.write.write_by_height.Tie as tie
 
 abbrev Inv-loop : tie.InvT-loop
 Inv-loop arena head output₀ sums₀ next₀ at₀ output sums next at = Heights arena head output₀ output sums next at

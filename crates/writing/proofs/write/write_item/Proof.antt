@@ -1,11 +1,11 @@
--- `shapes::write::write_item` meets its contract.
+-- `writing::write::write_item` meets its contract.
 -- Both places are inside, and the two stores are the definition.
 use borrow.Author.Needs.{needs}
 use native.Mathlib.Omega.{arith}
 use lib.ListN.{length-set}
-use Rattle.shapes.specs.inside.Writing.{itemAt}
-use Rattle.shapes.proofs.write.write_item.Statement.{statement}
-use Rattle.shapes.proofs.write.write_item.Tie as tie
+use Rattle.writing.specs.inside.Writing.{itemAt}
+use Rattle.writing.proofs.write.write_item.Statement.{statement}
+use Rattle.writing.proofs.write.write_item.Tie as tie
 
 mul-output : tie.Need-mul-output
 mul-output c = search needs

@@ -1,10 +1,10 @@
--- `shapes::write::count_items` meets its contract.
+-- `writing::write::count_items` meets its contract.
 -- The loop keeps `Counting`, that the records counted and those left are all; the measure is the number of those left, counted along the first link.
 use borrow.Author.Needs.{needs}
 use Rattle.arena.proofs.Walking.{count}
-use Rattle.shapes.proofs.ListWalk.{Counting, walk-has, walk-less, counting-start, counting-low, counting-more, counting-done}
-use Rattle.shapes.proofs.write.count_items.Statement.{statement}
-use Rattle.shapes.proofs.write.count_items.Tie as tie
+use Rattle.writing.proofs.ListWalk.{Counting, walk-has, walk-less, counting-start, counting-low, counting-more, counting-done}
+use Rattle.writing.proofs.write.count_items.Statement.{statement}
+use Rattle.writing.proofs.write.count_items.Tie as tie
 
 abbrev Inv-loop : tie.InvT-loop
 Inv-loop arena head next₀ number₀ next number = Counting arena head next number

@@ -10,7 +10,7 @@ use Rattle.arena.specs.Lazy.{nextWith}
 use Rattle.arena.specs.inside.Chain.{Has, Member, Chain, Linked}
 use Rattle.arena.specs.inside.Sums.{Summable}
 use Rattle.arena.proofs.Walking.{count, next-none, next-first, next-second, count-is, one-list}
-use Rattle.shapes.specs.inside.Writing.{Countable}
+use Rattle.writing.specs.inside.Writing.{Countable}
 
 -- Of the list rs of the head h the records qs are left, the first of them is `next`, and P holds of both.
 pub record Walk (a : List ℕ) (h next : ℕ) (P : List ℕ → List ℕ → Type 0) : Type 0 where

@@ -1,0 +1,5 @@
+pub mod ListWalk
+pub mod WordLaws
+pub mod ItemLaws
+pub mod Heights
+pub mod Widths

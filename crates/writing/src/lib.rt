@@ -1,0 +1,2 @@
+// The items of a lazy list, written into a buffer.
+pub mod write;
