@@ -29,9 +29,10 @@ use Rattle.lent.proofs.Asking.{Levelled, levels-taken, buffers-taken, output-ta
 use Rattle.lent.proofs.Calling.{call-refused, counts, asked-of-counts, refused-by-file, refused-by-asked, asked-taken, taken-by-all}
 use Rattle.parts.specs.inside.Building.{Buildable, Whole}
 use Rattle.shapes.proofs.RootLaws.{root-list}
-use Rattle.fit.specs.declared.Fitted.{Fitted}
-use Rattle.fit.specs.Fitting.{fitAsks, fitChecks, noFace, faceFound, faceWords}
-use Rattle.fit.specs.inside.Facing.{Placeable, PlacedIn}
+use Rattle.placing.specs.declared.Fitted.{Fitted}
+use Rattle.placing.specs.Found.{noFace, faceFound, faceWords}
+use Rattle.fit.specs.Fitting.{fitAsks, fitChecks}
+use Rattle.placing.specs.inside.Facing.{Placeable, PlacedIn}
 use Rattle.fit.specs.Demand3.{Demand3}
 use Rattle.fit.specs.Promise.{FitLeaves}
 

@@ -10,7 +10,7 @@ use Rattle.slicing.specs.Layout.{topmost, rightmost, Outline}
 use Rattle.slicing.specs.Fit.{picked, smallest, place, words}
 use Rattle.slicing.specs.FitMeans.{FaceFits, NothingFits}
 use Rattle.lent.specs.Lent.{writtenOver}
-use Rattle.fit.specs.declared.Fitted.{Fitted}
+use Rattle.placing.specs.declared.Fitted.{Fitted}
 
 -- A face was returned: the item z of the face t was picked, and its layout was written.
 pub record Returned (t : Tree) (o : Outline) (r : Fitted) (old output : List ℕ) (z : Item) : Type 0 where

@@ -1,4 +1,3 @@
 pub mod Fitting
 pub mod Demand3
 pub mod Promise
-pub mod inside

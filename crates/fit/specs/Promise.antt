@@ -8,7 +8,7 @@ use Rattle.slicing.specs.Layout.{Outline}
 use Rattle.lent.specs.Lent.{Lent}
 use Rattle.lent.specs.Call.{FreeAfter}
 use Rattle.shapes.specs.Listing.{ListArena}
-use Rattle.fit.specs.declared.Fitted.{Fitted}
+use Rattle.placing.specs.declared.Fitted.{Fitted}
 use Rattle.fit.specs.Fitting.{fitChecks, fitted, fitOutput}
 use Rattle.fit.specs.Demand3.{Demand3}
 

@@ -6,19 +6,13 @@ ghost use Rattle.checks.specs.Limits.{mostGauges};
 ghost use Rattle.slicing.specs.Layout.{outline};
 ghost use Rattle.facefile.specs.Format.{faceOf};
 ghost use Rattle.lent.specs.Lent.{lent};
-ghost use Rattle.fit.specs.Fitting.{fitAsks, noFace};
-ghost use Rattle.fit.specs.inside.Facing.{Placeable, PlacedIn};
+ghost use Rattle.fit.specs.Fitting.{fitAsks};
 ghost use Rattle.fit.specs.Promise.{FitPromise};
-use crate::Fitted;
 use checks::limits::WORDS;
-use laying::lay::item_at;
-use laying::lay::lay;
-use packed::item::m_of;
-use packed::item::p_of;
 use parts::build::build;
-use picking::pick::pick;
-use stored::fill::store_lists;
-use stored::fill::stretch;
+use placing::Fitted;
+use placing::place_face;
+use placing::refused;
 
 // How many words the buffers have that a call is lent.
 struct Lengths {
@@ -37,52 +31,6 @@ fn asked_number(n: usize, g: usize, levels: &[u8], height: u32, width: u32, leng
     let words = checks::first_no(buffers, lent::output_number(5 * g, lengths.output));
     let given = checks::first_no(lent::opening_number(height, width), words);
     checks::first_no(lent::levels_number(n, levels), given)
-}
-
-fn refused(number: u32) -> Fitted
-    ensures { λ r. ⌜ r ≡ noFace number ⌝ }
-{
-    Fitted {
-        number,
-        height: 0,
-        width: 0,
-        area: 0,
-        count: 0,
-    }
-}
-
-// The smallest face of a taken file in an opening, its layout in the output. No list is built in an arena. It is for
-// callers that have made the checks of the fit call.
-pub fn place_face(
-    file: &[u8],
-    gauges: usize,
-    height: u32,
-    width: u32,
-    scratch: &mut [u32],
-    output: &mut [u32],
-) -> Fitted
-    requires { ⌜ Placeable (now file) gauges (now scratch) (now output) ⌝ }
-    ensures { λ r. ⌜ PlacedIn (now (file .entry)) (outline height width) r (now (output .entry)) (now (output .exit)) ⌝ }
-{
-    let root = store_lists(file, scratch);
-    let list = stretch(scratch, root, entries::BESIDE);
-    let picked = pick(scratch, list.from, list.count, list.across, height, width);
-    if !picked.found {
-        return refused(checks::FITS);
-    }
-    let place = picked.place;
-    let z = item_at(scratch, root, place);
-    let high = m_of(z);
-    let wide = p_of(z);
-    let count = list.count as u32;
-    lay(scratch, root, gauges, place, 0, 0, output);
-    Fitted {
-        number: checks::TAKEN,
-        height: high,
-        width: wide,
-        area: high * wide,
-        count,
-    }
 }
 
 // Checks 1 to 18, then the smallest face inside the opening, its layout in the output and its list in the arena; 19 where

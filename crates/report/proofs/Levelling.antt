@@ -16,7 +16,7 @@ use Rattle.levels.specs.inside.Taken.{OwnLevels}
 use Rattle.levels.proofs.Sequence.{length-levels}
 use Rattle.levels.proofs.Range.{top-least, top-most, level-fits}
 use Rattle.shapes.specs.inside.Taken.{Writable}
-use Rattle.fit.specs.inside.Facing.{Placeable}
+use Rattle.placing.specs.inside.Facing.{Placeable}
 use Rattle.report.specs.inside.Telling.{Tallied, Levelled}
 
 -- Every level is 1 to 8.

@@ -22,9 +22,9 @@ use Rattle.lent.specs.Lent.{writtenOver}
 use Rattle.writing.specs.Words.{listWords}
 use Rattle.shapes.specs.inside.Taken.{Wrote, WroteFace}
 use Rattle.writing.proofs.WordLaws.{words-length as list-words-length}
-use Rattle.fit.specs.declared.Fitted.{Fitted}
-use Rattle.fit.specs.Fitting.{faceFound, faceWords}
-use Rattle.fit.specs.inside.Facing.{PlacedFace, PlacedIn}
+use Rattle.placing.specs.declared.Fitted.{Fitted}
+use Rattle.placing.specs.Found.{faceFound, faceWords}
+use Rattle.placing.specs.inside.Facing.{PlacedFace, PlacedIn}
 use Rattle.rendering.specs.Text.{facesText, refusedText}
 use Rattle.rendering.specs.Room.{textBytes}
 use Rattle.report.specs.Faces.{widest, pickPrinted, facesPrinted, FacesText}

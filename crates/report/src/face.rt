@@ -14,7 +14,7 @@ ghost use Rattle.report.specs.inside.Telling.{Tallied, Levelled, Worked}
 use crate::TEXT;
 use checks::limits::SIZES;
 use checks::limits::WORDS;
-use fit::Fitted;
+use placing::Fitted;
 use rendering::render::render;
 use rendering::render::render_refused;
 
@@ -95,7 +95,7 @@ fn placed_text(
     let mut items = items_room();
     let mut layout = layout_room();
     let count = shapes::write_list(file, levels, words, &mut items);
-    let face = fit::place_face(file, gauges, OPENING, OPENING, words, &mut layout);
+    let face = placing::place_face(file, gauges, OPENING, OPENING, words, &mut layout);
     told_text(face, count, &items, gauges, &layout, text)
 }
 

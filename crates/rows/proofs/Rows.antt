@@ -23,8 +23,9 @@ use Rattle.maxplus.specs.declared.Reading.{Reading}
 use Rattle.maxplus.specs.Read.{readItem, reading}
 use Rattle.lent.specs.Lent.{writtenOver}
 use Rattle.writing.specs.Words.{listWords}
-use Rattle.fit.specs.declared.Fitted.{Fitted}
-use Rattle.fit.specs.Fitting.{noFace, fitted, fitOutput}
+use Rattle.placing.specs.declared.Fitted.{Fitted}
+use Rattle.placing.specs.Found.{noFace}
+use Rattle.fit.specs.Fitting.{fitted, fitOutput}
 
 pub data Row : Type 0 where
   -- The outer sizes of a file's face.

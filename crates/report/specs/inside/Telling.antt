@@ -10,8 +10,8 @@ use Rattle.slicing.specs.Shapes.{shapes}
 use Rattle.slicing.specs.Fit.{picked, smallest, place, words}
 use Rattle.facefile.specs.Format.{faceOf}
 use Rattle.writing.specs.Words.{listWords}
-use Rattle.fit.specs.declared.Fitted.{Fitted}
-use Rattle.fit.specs.Fitting.{faceFound}
+use Rattle.placing.specs.declared.Fitted.{Fitted}
+use Rattle.placing.specs.Found.{faceFound}
 use Rattle.report.specs.Faces.{widest}
 
 -- The file means a tree, with so many gauges and sizes.

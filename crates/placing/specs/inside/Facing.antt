@@ -10,8 +10,8 @@ use Rattle.slicing.specs.Shapes.{shapes}
 use Rattle.slicing.specs.Layout.{Outline}
 use Rattle.slicing.specs.Fit.{smallest}
 use Rattle.facefile.specs.Format.{faceOf}
-use Rattle.fit.specs.Fitting.{faceFound, faceWords}
-use Rattle.fit.specs.declared.Fitted.{Fitted}
+use Rattle.placing.specs.Found.{faceFound, faceWords}
+use Rattle.placing.specs.declared.Fitted.{Fitted}
 
 -- A taken file, and room in the scratch and in the output.
 pub record Placeable (file : List ℕ) (gauges : ℕ) (scratch output : List ℕ) : Type 0 where

@@ -1,12 +1,12 @@
--- `fit::fitting::place_face` meets its contract.
+-- `placing::face::place_face` meets its contract.
 -- The stored root's list is the face's, and each call is ready for the next.
 use native.Mathlib.Omega.{arith}
 use borrow.Author.Needs.{needs}
 use Rattle.slicing.specs.Layout.{outline}
 use Rattle.picking.proofs.Looking.{halves-low}
-use Rattle.fit.proofs.FaceLaws.{area-fits, root-ready, root-list, Chosen, face-none, face-place, face-lays, face-counts, face-done}
-use Rattle.fit.proofs.fitting.place_face.Statement.{statement}
-use Rattle.fit.proofs.fitting.place_face.Tie as tie
+use Rattle.placing.proofs.FaceLaws.{area-fits, root-ready, root-list, Chosen, face-none, face-place, face-lays, face-counts, face-done}
+use Rattle.placing.proofs.face.place_face.Statement.{statement}
+use Rattle.placing.proofs.face.place_face.Tie as tie
 
 -- The places of the calls, each from a later one.
 abbrev start : tie.After-store-lists → tie.Start

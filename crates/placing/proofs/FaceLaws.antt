@@ -31,9 +31,9 @@ use Rattle.laying.specs.inside.Laying.{shapeAt, Layable, laid}
 use Rattle.laying.proofs.StretchLaws.{stretch-ready, stretch-list, stretch-count, stretch-facing}
 use Rattle.laying.proofs.ShapeReading.{Place, shape-low}
 use Rattle.laying.proofs.GaugeLaws.{Word, Ready, Lays, root-layable}
-use Rattle.fit.specs.declared.Fitted.{Fitted}
-use Rattle.fit.specs.Fitting.{noFace, faceFound, faceWords}
-use Rattle.fit.specs.inside.Facing.{Placeable, PlacedIn}
+use Rattle.placing.specs.declared.Fitted.{Fitted}
+use Rattle.placing.specs.Found.{noFace, faceFound, faceWords}
+use Rattle.placing.specs.inside.Facing.{Placeable, PlacedIn}
 
 pub area-fits : (h w : ℕ) → h < 65_536 → w < 65_536 → h * w < 2 ^ 32
 area-fits h w low-h low-w = let area = product-low h w low-h low-w in omega arith
