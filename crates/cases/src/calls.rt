@@ -2,17 +2,17 @@
 ghost use Prim.Native.Nat.{_≤_};
 ghost use lib.ListN.{length};
 use crate::lending::lend;
-use caseline::number::Numbers;
-use caseline::number::at_most;
-use listing::call_read;
-use listing::call_words;
-use shown::buffers::show_text;
-use shown::byte_calls::call_gauge;
-use shown::byte_calls::call_levels;
-use shown::print::put;
-use shown::rooms::TEXT;
-use shown::rooms::WORDS;
-use shown::rooms::text_room;
+use cases_line::number::Numbers;
+use cases_line::number::at_most;
+use cases_listing::call_read;
+use cases_listing::call_words;
+use cases_shown::buffers::show_text;
+use cases_shown::byte_calls::call_gauge;
+use cases_shown::byte_calls::call_levels;
+use cases_shown::print::put;
+use cases_shown::rooms::TEXT;
+use cases_shown::rooms::WORDS;
+use cases_shown::rooms::text_room;
 
 fn text(file: &[u8], room: &mut [u8]) {
     let length = report::faces_text(file, room);

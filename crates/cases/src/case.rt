@@ -2,12 +2,12 @@
 ghost use Prim.Native.Nat.{_≤_};
 ghost use lib.ListN.{length};
 use crate::calls::call;
-use caseline::hex::decode;
-use caseline::number::numbers_at;
-use shown::print::put;
-use shown::print::put_count;
-use shown::print::put_word;
-use shown::rooms::levels_room;
+use cases_line::hex::decode;
+use cases_line::number::numbers_at;
+use cases_shown::print::put;
+use cases_shown::print::put_count;
+use cases_shown::print::put_word;
+use cases_shown::rooms::levels_room;
 
 // The place after the colon of a name, or the end of a text that has none.
 fn name_end(text: &[u8]) -> usize

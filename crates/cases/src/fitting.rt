@@ -1,10 +1,10 @@
 // The fit call.
-use shown::buffers::show_output;
-use shown::kept::show_all_kept;
-use shown::kept::show_output_kept;
-use shown::list::show_list;
-use shown::print::put;
-use shown::print::put_word;
+use cases_shown::buffers::show_output;
+use cases_shown::kept::show_all_kept;
+use cases_shown::kept::show_output_kept;
+use cases_shown::list::show_list;
+use cases_shown::print::put;
+use cases_shown::print::put_word;
 
 // The number and the fields of an answer.
 fn put_answer(fitted: fit::Fitted) {

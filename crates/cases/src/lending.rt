@@ -1,13 +1,13 @@
 // The calls that are lent an arena, a scratch and an output.
 use crate::fitting::call_fit;
-use caseline::number::Numbers;
-use caseline::number::at_most;
-use listing::call_list;
-use shown::rooms::OUTPUT;
-use shown::rooms::UNTOUCHED;
-use shown::rooms::WORDS;
-use shown::rooms::output_room;
-use shown::rooms::words_room;
+use cases_line::number::Numbers;
+use cases_line::number::at_most;
+use cases_listing::call_list;
+use cases_shown::rooms::OUTPUT;
+use cases_shown::rooms::UNTOUCHED;
+use cases_shown::rooms::WORDS;
+use cases_shown::rooms::output_room;
+use cases_shown::rooms::words_room;
 
 // The list call, or the fit call where the letter is another.
 fn call_lent(

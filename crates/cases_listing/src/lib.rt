@@ -1,0 +1,70 @@
+// The list call, and the calls on the arena that it leaves, with what they give as text on standard output.
+ghost use Prim.Native.Nat.{_≤_};
+ghost use lib.ListN.{length};
+use cases_line::number::Numbers;
+use cases_line::number::at_most;
+use cases_line::number::length_of;
+use cases_line::words::replace_words;
+use cases_shown::buffers::show_output;
+use cases_shown::buffers::show_words;
+use cases_shown::kept::show_all_kept;
+use cases_shown::list::show_list;
+use cases_shown::list::show_reading;
+use cases_shown::print::put;
+use cases_shown::print::put_word;
+use cases_shown::rooms::UNTOUCHED;
+use cases_shown::rooms::WORDS;
+use cases_shown::rooms::output_room;
+use cases_shown::rooms::words_room;
+
+// What the list call answered and what it left, or whether the buffers are as they were.
+fn show_listed(listed: shapes::Listed, arena: &[u32], scratch: &[u32], output: &[u32]) {
+    put_word(b"list ", listed.number);
+    put_word(b" ", listed.count);
+    put(b"\n");
+    if listed.number == 0 {
+        show_output(output, 2 * length_of(listed.count));
+        show_list(arena);
+    } else {
+        show_all_kept(arena, scratch, output);
+    }
+}
+
+// The list call in the buffers that are lent.
+pub fn call_list(
+    file: &[u8],
+    levels: &[u8],
+    arena: &mut [u32],
+    scratch: &mut [u32],
+    output: &mut [u32],
+) {
+    let listed = shapes::list(file, levels, arena, scratch, output);
+    show_listed(listed, arena, scratch, output);
+}
+
+// The reading call on an arena that the list call leaves and whose words are then replaced.
+fn read(text: &[u8], file: &[u8], levels: &[u8], numbers: Numbers, arena: &mut [u32])
+    requires { ⌜ numbers .end ≤ length (now text) ⌝ }
+{
+    let mut scratch = words_room(UNTOUCHED);
+    let mut output = output_room();
+    shapes::list(file, levels, arena, &mut scratch, &mut output);
+    replace_words(text, numbers.end, arena);
+    show_reading(arena, at_most(numbers.arena, WORDS), numbers.width);
+}
+
+pub fn call_read(text: &[u8], file: &[u8], levels: &[u8], numbers: Numbers)
+    requires { ⌜ numbers .end ≤ length (now text) ⌝ }
+{
+    let mut arena = words_room(numbers.height);
+    read(text, file, levels, numbers, &mut arena);
+}
+
+// The words of an arena that the list call leaves.
+pub fn call_words(file: &[u8], levels: &[u8], words: usize) {
+    let mut arena = words_room(UNTOUCHED);
+    let mut scratch = words_room(UNTOUCHED);
+    let mut output = output_room();
+    shapes::list(file, levels, &mut arena, &mut scratch, &mut output);
+    show_words(&arena, words);
+}

@@ -1,0 +1,37 @@
+-- `cases_shown::list::show_reading` is safe: each part that it lends is no longer than what it is a part of. Assumes
+-- nothing.
+use native.Mathlib.Omega.{arith}
+use mathlib.Core.Path.{sym}
+use lib.Seq.{length-take-le}
+use borrow.Author.Needs.{needs}
+use Rattle.cases_shown.proofs.list.show_reading.Statement.{statement}
+use Rattle.cases_shown.proofs.list.show_reading.Tie as tie
+
+slice-aggregate-put : tie.Need-slice-aggregate-put
+slice-aggregate-put c = search needs
+
+put-requires : tie.Need-put-requires
+put-requires c κs = search needs
+
+returns : tie.Need-returns
+returns c = search needs
+
+slice-aggregate-put-reading : tie.Need-slice-aggregate-put-reading
+slice-aggregate-put-reading c = sym (length-take-le _ _ (omega arith))
+
+put-reading-requires : tie.Need-put-reading-requires
+put-reading-requires c κs = search needs
+
+returns-2 : tie.Need-returns-2
+returns-2 c = search needs
+
+pub show-reading-spec : {M : Type 1} → statement M
+show-reading-spec =
+    tie.close
+    (tie.spec
+    slice-aggregate-put
+    put-requires
+    returns
+    slice-aggregate-put-reading
+    put-reading-requires
+    returns-2)
