@@ -43,66 +43,67 @@ heads-apart false true place low e = omega arith
 heads-apart false false place low e = omega arith
 
 -- Two parts of neighbouring ranges can be merged to record 0.
-module _ (levels c : List ℕ) (x y lo mid hi : ℕ) (l k : List Recorded) (p : Part levels c x lo mid l) (q : Part levels c y mid hi k) (older-range : Ranged c lo mid) (newer-range : Ranged c mid hi) (older-suits : Suits l) (newer-suits : Suits k) (x-high : firstHead ≤ x) (y-high : firstHead ≤ y) (apart : x ≡ y → ⊥) where
-  off : (low high z : ℕ) (rs : List ℕ) → high ≤ z → All (λ u. (low ≤ u) × (u < high)) rs → Away z rs
-  off low high z rs above inside = away-out low high z rs (λ i. let v = i .1 in omega arith) inside
+module _ (levels c : List ℕ) (x y lo mid hi : ℕ) (l k : List Recorded) (p : Part levels c x lo mid l) (q : Part levels c y mid hi k) where
+  module _ (older-range : Ranged c lo mid) (newer-range : Ranged c mid hi) (older-suits : Suits l) (newer-suits : Suits k) (x-high : firstHead ≤ x) (y-high : firstHead ≤ y) (apart : x ≡ y → ⊥) where
+    off : (low high z : ℕ) (rs : List ℕ) → high ≤ z → All (λ u. (low ≤ u) × (u < high)) rs → Away z rs
+    off low high z rs above inside = away-out low high z rs (λ i. let v = i .1 in omega arith) inside
 
-  below : (low high z : ℕ) (rs : List ℕ) → z < low → All (λ u. (low ≤ u) × (u < high)) rs → Away z rs
-  below low high z rs under inside = away-out low high z rs (λ i. let v = i .0 in omega arith) inside
+    below : (low high z : ℕ) (rs : List ℕ) → z < low → All (λ u. (low ≤ u) × (u < high)) rs → Away z rs
+    below low high z rs under inside = away-out low high z rs (λ i. let v = i .0 in omega arith) inside
 
-  room : (h low high : ℕ) (g : List Recorded) (z : Part levels c h low high g) → Suits g → All (Roomy c) (z .list)
-  room h low high g z suits =
-      all-map (z .list) (λ u few. let low = few .0 in let high = few .1 in record { some = omega arith; small = omega arith })
-      (held-all (λ m. (1 ≤ m) × (m ≤ 64_000)) c h [] (z .list) (λ u i. let in-list = subst (λ (r : List Recorded). List·Memᴰ u r) (z .holds) i in (suits .some u in-list, suits .low u in-list .0)))
+    room : (h low high : ℕ) (g : List Recorded) (z : Part levels c h low high g) → Suits g → All (Roomy c) (z .list)
+    room h low high g z suits =
+        all-map (z .list) (λ u few. let low = few .0 in let high = few .1 in record { some = omega arith; small = omega arith })
+        (held-all (λ m. (1 ≤ m) × (m ≤ 64_000)) c h [] (z .list) (λ u i. let in-list = subst (λ (r : List Recorded). List·Memᴰ u r) (z .holds) i in (suits .some u in-list, suits .low u in-list .0)))
 
-  pub mergeable : Mergeable c x y 0 (p .list) (q .list)
-  mergeable =
-      let long = older-range .long in
-      let some = older-range .some in
-      let later = newer-range .some in
-      let most = newer-range .most in
-      let middle = older-range .most in
-      record {
-        older = p .built;
-        newer = q .built;
-        result-has = omega arith;
-        older-newer = apart;
-        older-result = λ e. omega arith;
-        newer-result = λ e. omega arith;
-        older-off-newer = off mid hi x (q .list) (omega arith) (q .inside);
-        newer-off-older = off lo mid y (p .list) (omega arith) (p .inside);
-        result-off-older = below lo mid 0 (p .list) (omega arith) (p .inside);
-        result-off-newer = below mid hi 0 (q .list) (omega arith) (q .inside);
-        lists-apart = all-map (p .list) (λ u i. let v = i .1 in below mid hi u (q .list) v (q .inside)) (p .inside);
-        older-few = let few = older-suits .few in let same = part-length levels c c x lo mid l p in omega arith;
-        newer-few = let few = newer-suits .few in let same = part-length levels c c y mid hi k q in omega arith;
-        older-order = subst (λ (r : List Recorded). Ordered (items r)) (sym (p .holds)) (older-suits .ordered);
-        newer-order = subst (λ (r : List Recorded). Ordered (items r)) (sym (q .holds)) (newer-suits .ordered);
-        small = λ u v i j.
-            let first = older-suits .low u (subst (λ (r : List Recorded). List·Memᴰ u r) (p .holds) i) .1 in
-            let second = newer-suits .low v (subst (λ (r : List Recorded). List·Memᴰ v r) (q .holds) j) .1 in
-            omega arith;
-        older-room = room x lo mid l p older-suits;
-        newer-room = room y mid hi k q newer-suits;
-      }
+    pub mergeable : Mergeable c x y 0 (p .list) (q .list)
+    mergeable =
+        let long = older-range .long in
+        let some = older-range .some in
+        let later = newer-range .some in
+        let most = newer-range .most in
+        let middle = older-range .most in
+        record {
+          older = p .built;
+          newer = q .built;
+          result-has = omega arith;
+          older-newer = apart;
+          older-result = λ e. omega arith;
+          newer-result = λ e. omega arith;
+          older-off-newer = off mid hi x (q .list) (omega arith) (q .inside);
+          newer-off-older = off lo mid y (p .list) (omega arith) (p .inside);
+          result-off-older = below lo mid 0 (p .list) (omega arith) (p .inside);
+          result-off-newer = below mid hi 0 (q .list) (omega arith) (q .inside);
+          lists-apart = all-map (p .list) (λ u i. let v = i .1 in below mid hi u (q .list) v (q .inside)) (p .inside);
+          older-few = let few = older-suits .few in let same = part-length levels c c x lo mid l p in omega arith;
+          newer-few = let few = newer-suits .few in let same = part-length levels c c y mid hi k q in omega arith;
+          older-order = subst (λ (r : List Recorded). Ordered (items r)) (sym (p .holds)) (older-suits .ordered);
+          newer-order = subst (λ (r : List Recorded). Ordered (items r)) (sym (q .holds)) (newer-suits .ordered);
+          small = λ u v i j.
+              let first = older-suits .low u (subst (λ (r : List Recorded). List·Memᴰ u r) (p .holds) i) .1 in
+              let second = newer-suits .low v (subst (λ (r : List Recorded). List·Memᴰ v r) (q .holds) j) .1 in
+              omega arith;
+          older-room = room x lo mid l p older-suits;
+          newer-room = room y mid hi k q newer-suits;
+        }
 
-  pub merged-part : (d : List ℕ) → Merged c d x y 0 (p .list) (q .list) → Part levels d 0 lo hi (mergeRecorded 0 l k)
-  merged-part d m =
-      let some = older-range .some in
-      let first = older-range .upward in
-      let second = newer-range .upward in
-      record {
-        list = m .list;
-        built = m .built;
-        holds = m .holds ∙ ap₂ (mergeRecorded 0) (p .holds) (q .holds);
-        inside =
-            inside-of lo hi (m .list)
-            (λ u out.
-            m .records u (away-out lo mid u (p .list) (λ i. let v = i .1 in out (i .0, omega arith)) (p .inside)) (away-out mid hi u (q .list) (λ i. let v = i .0 in out (omega arith, i .1)) (q .inside)));
-        level-is = λ u v w.
-            m .level-kept u (λ e. omega arith)
-            ∙ lt-or-ge u mid (λ less. p .level-is u v less) (λ more. q .level-is u more w);
-      }
+    pub merged-part : (d : List ℕ) → Merged c d x y 0 (p .list) (q .list) → Part levels d 0 lo hi (mergeRecorded 0 l k)
+    merged-part d m =
+        let some = older-range .some in
+        let first = older-range .upward in
+        let second = newer-range .upward in
+        record {
+          list = m .list;
+          built = m .built;
+          holds = m .holds ∙ ap₂ (mergeRecorded 0) (p .holds) (q .holds);
+          inside =
+              inside-of lo hi (m .list)
+              (λ u out.
+              m .records u (away-out lo mid u (p .list) (λ i. let v = i .1 in out (i .0, omega arith)) (p .inside)) (away-out mid hi u (q .list) (λ i. let v = i .0 in out (omega arith, i .1)) (q .inside)));
+          level-is = λ u v w.
+              m .level-kept u (λ e. omega arith)
+              ∙ lt-or-ge u mid (λ less. p .level-is u v less) (λ more. q .level-is u more w);
+        }
 
 -- The join, call by call.
 module _ (levels a : List ℕ) (place lo mid hi : ℕ) (l k : List Recorded) (s t : Bool) (g : Joinable levels a place lo mid hi l k s t) where

@@ -36,10 +36,10 @@ parts-text items h w area layout l z words high wide product =
     best : bestLine h w area ≡ bestLine (z .m) (z .p) (z .m * z .p)
     best = cc
 
-module _ (old a b c new : List ℕ) (i j k r : ℕ) where
-  pub parts-appended : (items : List ℕ) (h w area : ℕ) (layout : List ℕ) → Appended old 0 (named facesWord (length items / 2) newline) a i → Appended a i (wordLines items) b j → Appended b j (bestLine h w area) c k → Appended c k (gaugeLines 1 layout) new r → Appended old 0 (parts items h w area layout) new r
+module _ (old a b c new : List ℕ) (i j k r : ℕ) (items : List ℕ) (h w area : ℕ) (layout : List ℕ) where
+  pub parts-appended : Appended old 0 (named facesWord (length items / 2) newline) a i → Appended a i (wordLines items) b j → Appended b j (bestLine h w area) c k → Appended c k (gaugeLines 1 layout) new r → Appended old 0 (parts items h w area layout) new r
   unfolding parts
-  parts-appended items h w area layout s t u v = joined s (joined t (joined u v))
+  parts-appended s t u v = joined s (joined t (joined u v))
 
 module _ (items : List ℕ) (h w area : ℕ) (layout old new : List ℕ) (r : ℕ) (s : Appended old 0 (parts items h w area layout) new r) where
   pub faces-printed : Renderable items h w area layout old → ((l : List Item) (z : Item) → items ≡ listWords l → h ≡ z .m → w ≡ z .p → area ≡ z .m * z .p → Printed (facesText l z layout) old new r) × Counted textBytes new r

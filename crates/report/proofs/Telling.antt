@@ -45,12 +45,13 @@ Renders face items layout old new r =
     (l : List Item) (z : Item) → items ≡ listWords l → face .height ≡ z .m → face .width ≡ z .p → face .area ≡ z .m * z .p → Printed (facesText l z layout) old new r
 
 -- One that is, by that promise.
-placed : (t : Tree) (p : Pick) (face : Fitted) (items layout old new : List ℕ) (r : ℕ) → face ≡ faceFound t p → face .number ≡ 0 → items ≡ listWords (shapes 0 t) → ((z : Item) → p ≡ picked z → layout ≡ words t (place 0 t z 0 0)) → Renders face items layout old new r → Printed (pickPrinted t p) old new r
-placed t nothing face items layout old new r e zero i l render =
-    let n = ap (λ (f : Fitted). f .number) e in absurd (omega arith)
-placed t (picked z) face items layout old new r e zero i l render =
-    subst (λ (w : List ℕ). Printed (facesText (shapes 0 t) z w) old new r) (l z refl)
-    (render (shapes 0 t) z i (ap (λ (f : Fitted). f .height) e) (ap (λ (f : Fitted). f .width) e) (ap (λ (f : Fitted). f .area) e))
+module _ (t : Tree) (face : Fitted) (items layout old new : List ℕ) (r : ℕ) where
+  placed : (p : Pick) → face ≡ faceFound t p → face .number ≡ 0 → items ≡ listWords (shapes 0 t) → ((z : Item) → p ≡ picked z → layout ≡ words t (place 0 t z 0 0)) → Renders face items layout old new r → Printed (pickPrinted t p) old new r
+  placed nothing e zero i l render =
+      let n = ap (λ (f : Fitted). f .number) e in absurd (omega arith)
+  placed (picked z) e zero i l render =
+      subst (λ (w : List ℕ). Printed (facesText (shapes 0 t) z w) old new r) (l z refl)
+      (render (shapes 0 t) z i (ap (λ (f : Fitted). f .height) e) (ap (λ (f : Fitted). f .width) e) (ap (λ (f : Fitted). f .area) e))
 
 module _ (face : Fitted) (count : ℕ) (items : List ℕ) (gauges : ℕ) (layout old new : List ℕ) (r : ℕ) where
   pub told-no : (face .number ≡ 0 → ⊥) → Printed (refusedText (face .number)) old new r → (t : Tree) → Worked t face count items gauges layout → Printed (pickPrinted t (smallest widest (shapes 0 t))) old new r
@@ -59,7 +60,7 @@ module _ (face : Fitted) (count : ℕ) (items : List ℕ) (gauges : ℕ) (layout
 
   pub told-yes : face .number ≡ 0 → Renders face (take (2 * count) items) (take (5 * gauges) layout) old new r → (t : Tree) → Worked t face count items gauges layout → Printed (pickPrinted t (smallest widest (shapes 0 t))) old new r
   told-yes zero render t w =
-      placed t (smallest widest (shapes 0 t)) face (take (2 * count) items) (take (5 * gauges) layout) old new r (w .fitted-is) zero (w .listed) (w .laid) render
+      placed t face (take (2 * count) items) (take (5 * gauges) layout) old new r (smallest widest (shapes 0 t)) (w .fitted-is) zero (w .listed) (w .laid) render
 
 -- What stands at the start of an output.
 starts : (k : ℕ) (words old new : List ℕ) → new ≡ writtenOver words old → k ≡ length words → take k new ≡ words

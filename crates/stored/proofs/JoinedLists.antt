@@ -15,7 +15,7 @@ use Rattle.packed.specs.declared.merge.Stretch.{Stretch}
 use Rattle.packed.proofs.Merging.{sums-low}
 use Rattle.stored.specs.inside.Store.{ownShapes, Entry}
 use Rattle.stored.specs.inside.Filling.{entryAt, stretchOf, Added}
-use Rattle.stored.specs.inside.Adding.{JoinRoom}
+use Rattle.stored.specs.inside.Adding.{JoinRoom, JoinAdded}
 use Rattle.stored.proofs.EntryLaws.{entry-added}
 use Rattle.stored.proofs.OwnLists.{own-merge, own-low, own-filled, kind-low, cut-short}
 
@@ -161,7 +161,7 @@ module _ (s : List ℕ) (e to kind rest : ℕ) (r : rest ≡ getD s (4 * (e - 1)
           let short = cut-short kind (p .0) (g .is-cut) (p .1) (p .2) (g .older-good) (g .newer-good) (g .few) in
           (omega arith, omega arith, omega arith, few)
 
-      pub join-done : (first : ℕ) → first ≡ getD s (4 * (e - 2 * rest) + 3) 0 → (v : List ℕ) → v ≡ entryAt z e to count kind (first + rest) → (cut : Tree → Tree → Tree) (a b : Tree) → JoinRoom s e to kind cut a b → Added s v e to kind (gaugeCount a + gaugeCount b) (ownShapes (cut a b)) × (count ≡ length (ownShapes (cut a b)))
+      pub join-done : (first : ℕ) → first ≡ getD s (4 * (e - 2 * rest) + 3) 0 → (v : List ℕ) → v ≡ entryAt z e to count kind (first + rest) → (cut : Tree → Tree → Tree) (a b : Tree) → JoinRoom s e to kind cut a b → JoinAdded s v e to kind count cut a b
       join-done first f v stored cut a b g =
           let made = join-made (cut, a, b, g) in
           (join-added s e to kind cut a b g rest r A B A-is B-is z count made first f v stored, join-count s e to kind cut a b g rest r A B A-is B-is z count made)

@@ -43,7 +43,9 @@ module _ (s₀ : List ℕ) (to : ℕ) (bytes : List ℕ) (count : ℕ) (s : List
       let many = in-length count bytes in
       let inside = packing-room in
       let first : length (take k (sizesIn count bytes)) ≡ k = length-take-le k (sizesIn count bytes) (omega arith) in
-      let all : take k (sizesIn count bytes) ++ (size (z .height) (z .width) ∷ []) ≡ take (k + 1) (sizesIn count bytes) = ap (λ (y : Item). take k (sizesIn count bytes) ++ (y ∷ [])) (here .same count more) ∙ sym (ap (λ (n : ℕ). take n (sizesIn count bytes)) (add-one k) ∙ take-suc (sizesIn count bytes) k (size 0 0) (omega arith)) in
+      let longer = ap (λ (n : ℕ). take n (sizesIn count bytes)) (add-one k) ∙ take-suc (sizesIn count bytes) k (size 0 0) (omega arith) in
+      let all : take k (sizesIn count bytes) ++ (size (z .height) (z .width) ∷ []) ≡ take (k + 1) (sizesIn count bytes) =
+      ap (λ (y : Item). take k (sizesIn count bytes) ++ (y ∷ [])) (here .same count more) ∙ sym longer in
       record {
         within = omega arith;
         length-kept = length-set s (to + k) v ∙ g .length-kept;

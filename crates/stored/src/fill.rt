@@ -3,13 +3,12 @@ ghost use mathlib.Core.Path.{_≡_};
 ghost use Prim.Native.Nat.{ℕ, _+_, _*_, _<_, _≤_};
 ghost use lib.ListN.{length, getD};
 ghost use Rattle.checks.specs.Answer.{taken};
-ghost use Rattle.slicing.specs.Tree.{Tree, gaugeCount};
+ghost use Rattle.slicing.specs.Tree.{Tree};
 ghost use Rattle.facefile.specs.Format.{faceOf};
 ghost use Rattle.entries.specs.inside.Sizes.{sizesIn, Sized};
 ghost use Rattle.packed.specs.inside.Packed.{HasList};
-ghost use Rattle.stored.specs.inside.Store.{ownShapes};
 ghost use Rattle.stored.specs.inside.Filling.{entryAt, stretchOf, Added, Fillable, Filled};
-ghost use Rattle.stored.specs.inside.Adding.{Room, JoinRoom};
+ghost use Rattle.stored.specs.inside.Adding.{Room, JoinRoom, JoinAdded};
 use crate::table::COUNT;
 use crate::table::FROM;
 use crate::table::GAUGES;
@@ -85,7 +84,7 @@ pub fn stretch(scratch: &[u32], part: usize, join: u8) -> Stretch
 // Answers how many items it has.
 fn store_join(scratch: &mut [u32], part: usize, to: usize, kind: u8) -> usize
     requires { ⌜ ((cut : Tree → Tree → Tree) × (a : Tree) × (b : Tree) × JoinRoom (now scratch) part to kind cut a b) ⌝ }
-    ensures { λ r. ⌜ ((cut : Tree → Tree → Tree) (a b : Tree) → JoinRoom (now (scratch .entry)) part to kind cut a b → Added (now (scratch .entry)) (now (scratch .exit)) part to kind (gaugeCount a + gaugeCount b) (ownShapes (cut a b)) × (r ≡ length (ownShapes (cut a b)))) ⌝ }
+    ensures { λ r. ⌜ ((cut : Tree → Tree → Tree) (a b : Tree) → JoinRoom (now (scratch .entry)) part to kind cut a b → JoinAdded (now (scratch .entry)) (now (scratch .exit)) part to kind r cut a b) ⌝ }
 {
     let newer = part - 1;
     let rest = part_word(scratch, newer, GAUGES);

@@ -1,4 +1,5 @@
--- What adding a gauge or a join to the stored parts asks. No public contract cites it.
+-- What adding a gauge or a join to the stored parts asks, and what the adding of a join leaves. No public contract cites it.
+use mathlib.Core.Path.{_≡_}
 use mathlib.Core.List.{List}
 use Prim.Native.Nat.{ℕ, _+_, _*_, _-_, _≤_, _<_}
 use lib.ListN.{length}
@@ -7,7 +8,7 @@ use Rattle.slicing.specs.Tree.{Tree, gaugeCount}
 use Rattle.slicing.specs.Good.{Good}
 use Rattle.entries.specs.inside.Kinds.{kindOf, Cut}
 use Rattle.stored.specs.inside.Store.{ownShapes, Entry}
-use Rattle.stored.specs.inside.Filling.{Between}
+use Rattle.stored.specs.inside.Filling.{Between, Added}
 
 -- There is room for part e and for n items from the place `to` on.
 pub record Room (s : List ℕ) (e to n : ℕ) : Type 0 where
@@ -29,3 +30,8 @@ pub record JoinRoom (s : List ℕ) (e to kind : ℕ) (cut : Tree → Tree → Tr
   pub older-good : Good a
   pub newer-good : Good b
   pub few : gaugeCount a + gaugeCount b ≤ 64
+
+-- The join of a and b was added as part e, and its list has so many items.
+abbrev pub JoinAdded : (s z : List ℕ) (e to kind count : ℕ) (cut : Tree → Tree → Tree) (a b : Tree) → Type 0
+JoinAdded s z e to kind count cut a b =
+    Added s z e to kind (gaugeCount a + gaugeCount b) (ownShapes (cut a b)) × (count ≡ length (ownShapes (cut a b)))
