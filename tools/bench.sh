@@ -46,7 +46,7 @@ make_library() {
     cp -R target/rlib target/stamp "$work/target"
     mkdir -p "$work/crates/rattle_calls/src"
     cp bench/rattle.rt.txt "$work/crates/rattle_calls/src/lib.rt"
-    echo 'rattle_calls: slicing facefile arena maxplus merging parts shapes fit' >>"$work/crates.txt"
+    echo 'rattle_calls: maxplus merging parts shapes placing fit' >>"$work/crates.txt"
     (cd "$work" && quietly rt staticlib rattle_calls)
 }
 

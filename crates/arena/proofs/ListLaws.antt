@@ -33,12 +33,12 @@ module _ (a : List ℕ) (k : ℕ) where
   last-append h [] ys = refl
   last-append h (r ∷ xs) ys = last-append (cond (ltb k (level a r)) r h) xs ys
 
-  -- The next record with link k, in two lists one after the other.
   -- The last record with the link, after one more record.
   pub last-more : (h : ℕ) (xs : List ℕ) (r : ℕ) → lastWith a k h (xs ++ (r ∷ [])) ≡ cond (ltb k (level a r)) r (lastWith a k h xs)
   unfolding lastWith
   last-more h xs r = last-append h xs (r ∷ [])
 
+  -- The next record with link k, in two lists one after the other.
   pub next-front : (xs ys : List ℕ) → 1 ≤ nextWith a k xs → nextWith a k (xs ++ ys) ≡ nextWith a k xs
   unfolding nextWith
   next-front [] ys h = absurd (omega arith)

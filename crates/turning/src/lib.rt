@@ -1,2 +1,2 @@
-// Turning a list: m and p change places and the order reverses.
+// Lists turned, for a part that is joined the other way than its own list runs.
 pub mod turn;
