@@ -3,7 +3,6 @@ ghost use Prim.Native.Nat.{_≤_};
 ghost use lib.ListN.{length};
 use crate::lending::lend;
 use cases_line::number::Numbers;
-use cases_line::number::at_most;
 use cases_listing::call_read;
 use cases_listing::call_words;
 use cases_shown::buffers::show_text;
@@ -12,6 +11,7 @@ use cases_shown::byte_calls::call_levels;
 use cases_shown::print::put;
 use cases_shown::rooms::TEXT;
 use cases_shown::rooms::WORDS;
+use cases_shown::rooms::at_most;
 use cases_shown::rooms::text_room;
 
 fn text(file: &[u8], room: &mut [u8]) {

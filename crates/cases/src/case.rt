@@ -2,44 +2,12 @@
 ghost use Prim.Native.Nat.{_≤_};
 ghost use lib.ListN.{length};
 use crate::calls::call;
+use cases_line::file::take_file;
 use cases_line::hex::decode;
+use cases_line::name::put_name;
 use cases_line::number::numbers_at;
 use cases_shown::print::put;
-use cases_shown::print::put_count;
-use cases_shown::print::put_word;
 use cases_shown::rooms::levels_room;
-
-// The place after the colon of a name, or the end of a text that has none.
-fn name_end(text: &[u8]) -> usize
-    ensures { λ r. ⌜ r ≤ length (now (text .entry)) ⌝ }
-{
-    let mut at = 0;
-    while at < text.len() {
-        if text[at] == b':' {
-            return at + 1;
-        }
-        at += 1;
-    }
-    at
-}
-
-// What the reader of face files answers.
-fn show_face(face: facefile::Face) {
-    put_word(b"face ", face.number);
-    put_count(b" ", face.gauges);
-    put_count(b" ", face.sizes);
-    put(b"\n");
-}
-
-// Takes the file that stands at a place of a text, and shows what the reader says of it. Answers how many bytes it has.
-fn take_file(text: &[u8], start: usize, file: &mut [u8]) -> usize
-    requires { ⌜ start ≤ length (now text) ⌝ }
-{
-    let decoded = decode(text, start, file);
-    let bytes = decoded.length;
-    show_face(facefile::read(&file[..bytes]));
-    bytes
-}
 
 // Makes the call of a letter, with what stands at a place of a text.
 fn make_call(letter: u8, text: &[u8], start: usize, file: &[u8])
@@ -54,9 +22,7 @@ fn make_call(letter: u8, text: &[u8], start: usize, file: &[u8])
 
 // What a case gives. The file that is lent has so many bytes, and the answer is how many it has then.
 pub fn show_case(text: &[u8], file: &mut [u8], bytes: usize) -> usize {
-    let end = name_end(text);
-    put(&text[..end]);
-    put(b" ");
+    let end = put_name(text);
     if text.len() - end < 3 {
         put(b"no case\n");
         return bytes;

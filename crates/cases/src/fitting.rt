@@ -3,17 +3,19 @@ use cases_shown::buffers::show_output;
 use cases_shown::kept::show_all_kept;
 use cases_shown::kept::show_output_kept;
 use cases_shown::list::show_list;
+use cases_shown::print::end_line;
 use cases_shown::print::put;
+use cases_shown::print::put_next;
 use cases_shown::print::put_word;
 
 // The number and the fields of an answer.
 fn put_answer(fitted: fit::Fitted) {
     put_word(b"fit ", fitted.number);
-    put_word(b" ", fitted.height);
-    put_word(b" ", fitted.width);
-    put_word(b" ", fitted.area);
-    put_word(b" ", fitted.count);
-    put(b"\n");
+    put_next(fitted.height);
+    put_next(fitted.width);
+    put_next(fitted.area);
+    put_next(fitted.count);
+    end_line();
 }
 
 // The output of a taken call: five words for each gauge.

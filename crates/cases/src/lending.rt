@@ -1,11 +1,11 @@
 // The calls that are lent an arena, a scratch and an output.
 use crate::fitting::call_fit;
 use cases_line::number::Numbers;
-use cases_line::number::at_most;
 use cases_listing::call_list;
 use cases_shown::rooms::OUTPUT;
 use cases_shown::rooms::UNTOUCHED;
 use cases_shown::rooms::WORDS;
+use cases_shown::rooms::at_most;
 use cases_shown::rooms::output_room;
 use cases_shown::rooms::words_room;
 

@@ -39,8 +39,8 @@ mod fitting;
 mod lending;
 
 ghost use Prim.Native.Nat.{_≤_};
-use cases_line::number::at_most;
 use cases_line::number::number_at;
+use cases_shown::rooms::at_most;
 use libc::STDIN_FILENO;
 
 // The most cases of a run. A loop has to end, and an input need not.

@@ -2,10 +2,10 @@
 ghost use Prim.Native.Nat.{_+_, _≤_, _<_};
 ghost use lib.ListN.{length};
 use crate::number::after_sign;
-use crate::number::at_most;
 use crate::number::code;
 use crate::number::digit;
 use crate::number::next_number;
+use cases_shown::rooms::at_most;
 
 // How many bytes were decoded, and the place after them in the text.
 pub struct Decoded {

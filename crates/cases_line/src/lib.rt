@@ -1,4 +1,7 @@
-// What stands in the line of a case: decimal numbers, bytes in hexadecimal, and the words of an arena that it replaces.
+// What stands in the line of a case: its name and its file, which are shown as they are read; numbers, bytes in
+// hexadecimal, and the words of an arena that it replaces.
+pub mod file;
 pub mod hex;
+pub mod name;
 pub mod number;
 pub mod words;

@@ -102,18 +102,3 @@ pub fn numbers_at(text: &[u8], at: usize) -> Numbers
         end: output.end,
     }
 }
-
-// A number as a length.
-pub fn length_of(number: u32) -> usize
-    ensures { λ r. ⌜ r < 4_294_967_296 ⌝ }
-{
-    number as usize
-}
-
-// A number, or the most that it may be.
-pub fn at_most(number: u32, most: usize) -> usize
-    ensures { λ r. ⌜ r ≤ most ⌝ }
-{
-    let found = length_of(number);
-    if found < most { found } else { most }
-}

@@ -1,8 +1,8 @@
 // The words of an arena that a case replaces.
 ghost use Prim.Native.Nat.{_≤_};
 ghost use lib.ListN.{length};
-use crate::number::at_most;
 use crate::number::number_at;
+use cases_shown::rooms::at_most;
 
 // Sets a word, where there is one.
 fn set(words: &mut [u32], at: usize, value: u32) {

@@ -2,26 +2,27 @@
 ghost use Prim.Native.Nat.{_≤_};
 ghost use lib.ListN.{length};
 use cases_line::number::Numbers;
-use cases_line::number::at_most;
-use cases_line::number::length_of;
 use cases_line::words::replace_words;
 use cases_shown::buffers::show_output;
 use cases_shown::buffers::show_words;
 use cases_shown::kept::show_all_kept;
 use cases_shown::list::show_list;
 use cases_shown::list::show_reading;
-use cases_shown::print::put;
+use cases_shown::print::end_line;
+use cases_shown::print::put_next;
 use cases_shown::print::put_word;
 use cases_shown::rooms::UNTOUCHED;
 use cases_shown::rooms::WORDS;
+use cases_shown::rooms::at_most;
+use cases_shown::rooms::length_of;
 use cases_shown::rooms::output_room;
 use cases_shown::rooms::words_room;
 
 // What the list call answered and what it left, or whether the buffers are as they were.
 fn show_listed(listed: shapes::Listed, arena: &[u32], scratch: &[u32], output: &[u32]) {
     put_word(b"list ", listed.number);
-    put_word(b" ", listed.count);
-    put(b"\n");
+    put_next(listed.count);
+    end_line();
     if listed.number == 0 {
         show_output(output, 2 * length_of(listed.count));
         show_list(arena);
@@ -42,29 +43,26 @@ pub fn call_list(
     show_listed(listed, arena, scratch, output);
 }
 
-// The reading call on an arena that the list call leaves and whose words are then replaced.
-fn read(text: &[u8], file: &[u8], levels: &[u8], numbers: Numbers, arena: &mut [u32])
-    requires { ⌜ numbers .end ≤ length (now text) ⌝ }
-{
+// An arena that the list call leaves.
+fn leave_list(file: &[u8], levels: &[u8], arena: &mut [u32]) {
     let mut scratch = words_room(UNTOUCHED);
     let mut output = output_room();
     shapes::list(file, levels, arena, &mut scratch, &mut output);
-    replace_words(text, numbers.end, arena);
-    show_reading(arena, at_most(numbers.arena, WORDS), numbers.width);
 }
 
+// The reading call on an arena that the list call leaves and whose words are then replaced.
 pub fn call_read(text: &[u8], file: &[u8], levels: &[u8], numbers: Numbers)
     requires { ⌜ numbers .end ≤ length (now text) ⌝ }
 {
     let mut arena = words_room(numbers.height);
-    read(text, file, levels, numbers, &mut arena);
+    leave_list(file, levels, &mut arena);
+    replace_words(text, numbers.end, &mut arena);
+    show_reading(&arena, at_most(numbers.arena, WORDS), numbers.width);
 }
 
 // The words of an arena that the list call leaves.
 pub fn call_words(file: &[u8], levels: &[u8], words: usize) {
     let mut arena = words_room(UNTOUCHED);
-    let mut scratch = words_room(UNTOUCHED);
-    let mut output = output_room();
-    shapes::list(file, levels, &mut arena, &mut scratch, &mut output);
+    leave_list(file, levels, &mut arena);
     show_words(&arena, words);
 }

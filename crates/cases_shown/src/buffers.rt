@@ -3,6 +3,7 @@ ghost use Prim.Native.Nat.{_≤_};
 use crate::kept::is_blank;
 use crate::kept::is_untouched;
 use crate::kept::put_kept;
+use crate::print::end_line;
 use crate::print::put;
 use crate::print::put_row;
 use crate::print::put_sum;
@@ -36,7 +37,7 @@ pub fn show_output(output: &[u32], words: usize) {
     put(b"output");
     put_words(&output[..words]);
     put_kept(b" rest", is_untouched(&output[words..]));
-    put(b"\n");
+    end_line();
 }
 
 // A text in a buffer, and whether the bytes after it are as they were.
@@ -47,7 +48,7 @@ pub fn show_text(text: &[u8], length: usize) {
     }
     put(&text[..length]);
     put_kept(b"rest", is_blank(&text[length..]));
-    put(b"\n");
+    end_line();
 }
 
 // The first words of an arena, in a line.
@@ -58,5 +59,5 @@ pub fn show_words(arena: &[u32], words: usize) {
     }
     put(b"words");
     put_row(&arena[..words]);
-    put(b"\n");
+    end_line();
 }

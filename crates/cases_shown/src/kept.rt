@@ -1,4 +1,5 @@
 // Whether a call left its buffers as they were.
+use crate::print::end_line;
 use crate::print::put;
 use crate::rooms::BLANK;
 use crate::rooms::UNTOUCHED;
@@ -40,11 +41,11 @@ pub fn show_all_kept(arena: &[u32], scratch: &[u32], output: &[u32]) {
     put_kept(b"arena", is_untouched(arena));
     put_kept(b" scratch", is_untouched(scratch));
     put_kept(b" output", is_untouched(output));
-    put(b"\n");
+    end_line();
 }
 
 // Whether the output is as it was.
 pub fn show_output_kept(output: &[u32]) {
     put_kept(b"output", is_untouched(output));
-    put(b"\n");
+    end_line();
 }

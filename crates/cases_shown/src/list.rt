@@ -1,10 +1,12 @@
 // The list in an arena, and what the reading call gives of it.
 ghost use Prim.Native.Nat.{_≤_};
+use crate::print::end_line;
 use crate::print::put;
+use crate::print::put_next;
 use crate::print::put_sum;
 use crate::print::put_word;
+use crate::rooms::length_of;
 use crate::sum::with_word;
-use cases_line::number::length_of;
 
 // How many items of a list are shown. Of those after them a sum is.
 const ITEMS: u32 = 16;
@@ -33,10 +35,10 @@ fn put_other_m(m: u32, read: u32) {
 
 // An item of a list: its record with its level, and what the reading call gives of it.
 fn put_item(arena: &[u32], record: u32, reading: maxplus::Reading) {
-    put_word(b" ", record);
-    put_word(b" ", word(arena, record, 0));
-    put_word(b" ", reading.m);
-    put_word(b" ", reading.p);
+    put_next(record);
+    put_next(word(arena, record, 0));
+    put_next(reading.m);
+    put_next(reading.p);
     put_other_m(word(arena, record, 1), reading.m);
     put(b",");
 }
@@ -64,8 +66,8 @@ fn put_ends(arena: &[u32], sum: u64, place: u32, last: u32) {
         put_sum(sum);
     }
     put_word(b" ends ", maxplus::read(arena, 0).number);
-    put_word(b" ", last);
-    put(b"\n");
+    put_next(last);
+    end_line();
 }
 
 // The list in an arena, in a line.
@@ -91,9 +93,9 @@ pub fn show_list(arena: &[u32]) {
 fn put_reading(arena: &[u32], place: u32) {
     let reading = maxplus::read(arena, place);
     put_word(b"read ", reading.number);
-    put_word(b" ", reading.m);
-    put_word(b" ", reading.p);
-    put(b"\n");
+    put_next(reading.m);
+    put_next(reading.p);
+    end_line();
 }
 
 // The same of an arena of so many words.

@@ -15,10 +15,19 @@ pub fn put_word(separator: &[u8], word: u32) {
     put_number(word as u64);
 }
 
-// A count in decimal, after a separator.
-pub fn put_count(separator: &[u8], count: usize) {
-    put(separator);
+// A word in decimal, after a blank.
+pub fn put_next(word: u32) {
+    put_word(b" ", word);
+}
+
+// A count in decimal, after a blank.
+pub fn put_count(count: usize) {
+    put(b" ");
     put_number(count as u64);
+}
+
+pub fn end_line() {
+    put(b"\n");
 }
 
 // The sum of words that are not shown.
@@ -31,7 +40,7 @@ pub fn put_sum(sum: u64) {
 pub fn put_row(words: &[u32]) {
     let mut i = 0;
     while i < words.len() {
-        put_word(b" ", words[i]);
+        put_next(words[i]);
         i += 1;
     }
 }

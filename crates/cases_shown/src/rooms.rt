@@ -1,4 +1,6 @@
-// The buffers that a call is lent, before it is made. Each `ensures` gives only the length, which lending a part needs.
+// The buffers that a call is lent, before it is made, and lengths of their parts. Each `ensures` of a buffer gives only
+// the length, which lending a part needs.
+ghost use Prim.Native.Nat.{_≤_, _<_};
 ghost use mathlib.Core.Path.{_≡_};
 ghost use lib.ListN.{length};
 
@@ -40,4 +42,19 @@ pub fn text_room() -> [u8; TEXT]
     ensures { λ r. ⌜ 13_700 ≡ length r ⌝ }
 {
     [BLANK; TEXT]
+}
+
+// A number as a length.
+pub fn length_of(number: u32) -> usize
+    ensures { λ r. ⌜ r < 4_294_967_296 ⌝ }
+{
+    number as usize
+}
+
+// A number, or the most that it may be.
+pub fn at_most(number: u32, most: usize) -> usize
+    ensures { λ r. ⌜ r ≤ most ⌝ }
+{
+    let found = length_of(number);
+    if found < most { found } else { most }
 }

@@ -6,29 +6,17 @@ use borrow.Author.Needs.{needs}
 use Rattle.cases.proofs.case.show_case.Statement.{statement}
 use Rattle.cases.proofs.case.show_case.Tie as tie
 
-name-end-requires : tie.Need-name-end-requires
-name-end-requires c κs = search needs
-
-slice-aggregate-put : tie.Need-slice-aggregate-put
-slice-aggregate-put c = sym (length-take-le _ _ (omega arith))
-
-put-requires : tie.Need-put-requires
-put-requires c κs = search needs
-
-slice-aggregate-put-2 : tie.Need-slice-aggregate-put-2
-slice-aggregate-put-2 c = search needs
-
-put-requires-2 : tie.Need-put-requires-2
-put-requires-2 c κs = search needs
+put-name-requires : tie.Need-put-name-requires
+put-name-requires c κs = search needs
 
 sub-if1 : tie.Need-sub-if1
 sub-if1 c = search needs
 
-slice-aggregate-put-3 : tie.Need-slice-aggregate-put-3
-slice-aggregate-put-3 c = search needs
+slice-aggregate-put : tie.Need-slice-aggregate-put
+slice-aggregate-put c = search needs
 
-put-requires-3 : tie.Need-put-requires-3
-put-requires-3 c κs = search needs
+put-requires : tie.Need-put-requires
+put-requires c κs = search needs
 
 returns : tie.Need-returns
 returns c = search needs
@@ -51,11 +39,11 @@ same-length c = search needs
 returns-2 : tie.Need-returns-2
 returns-2 c = search needs
 
-slice-aggregate-put-4 : tie.Need-slice-aggregate-put-4
-slice-aggregate-put-4 c = search needs
+slice-aggregate-put-2 : tie.Need-slice-aggregate-put-2
+slice-aggregate-put-2 c = search needs
 
-put-requires-4 : tie.Need-put-requires-4
-put-requires-4 c κs = search needs
+put-requires-2 : tie.Need-put-requires-2
+put-requires-2 c κs = search needs
 
 returns-3 : tie.Need-returns-3
 returns-3 c = search needs
@@ -79,14 +67,10 @@ pub show-case-spec : {M : Type 1} → statement M
 show-case-spec =
     tie.close
     (tie.spec
-    name-end-requires
+    put-name-requires
+    sub-if1
     slice-aggregate-put
     put-requires
-    slice-aggregate-put-2
-    put-requires-2
-    sub-if1
-    slice-aggregate-put-3
-    put-requires-3
     returns
     add-letter
     shared-slice-read-letter
@@ -94,8 +78,8 @@ show-case-spec =
     take-file-requires
     same-length
     returns-2
-    slice-aggregate-put-4
-    put-requires-4
+    slice-aggregate-put-2
+    put-requires-2
     returns-3
     slice-reshare-prefix-make-call
     slice-aggregate-make-call

@@ -27,11 +27,8 @@ slice-aggregate-put-row c = sym (length-take-le _ _ (omega arith))
 put-row-requires : tie.Need-put-row-requires
 put-row-requires c κs = search needs
 
-slice-aggregate-put-3 : tie.Need-slice-aggregate-put-3
-slice-aggregate-put-3 c = search needs
-
-put-requires-3 : tie.Need-put-requires-3
-put-requires-3 c κs = search needs
+end-line-requires : tie.Need-end-line-requires
+end-line-requires c κs = search needs
 
 returns-2 : tie.Need-returns-2
 returns-2 c = search needs
@@ -47,6 +44,5 @@ show-words-spec =
     put-requires-2
     slice-aggregate-put-row
     put-row-requires
-    slice-aggregate-put-3
-    put-requires-3
+    end-line-requires
     returns-2)

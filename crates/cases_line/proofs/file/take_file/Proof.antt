@@ -1,10 +1,10 @@
--- `cases::case::take_file` is safe: each part that it lends is no longer than what it is a part of. Assumes nothing.
+-- `cases_line::file::take_file` is safe: each part that it lends is no longer than what it is a part of. Assumes nothing.
 use native.Mathlib.Omega.{arith}
 use mathlib.Core.Path.{sym}
 use lib.Seq.{length-take-le}
 use borrow.Author.Needs.{needs}
-use Rattle.cases.proofs.case.take_file.Statement.{statement}
-use Rattle.cases.proofs.case.take_file.Tie as tie
+use Rattle.cases_line.proofs.file.take_file.Statement.{statement}
+use Rattle.cases_line.proofs.file.take_file.Tie as tie
 
 decode-requires : tie.Need-decode-requires
 decode-requires c κs = search needs

@@ -1,10 +1,10 @@
--- `cases::case::name_end` is safe and ends. `at` stays within the text, and the measure is how far it is from its end.
+-- `cases_line::name::name_end` is safe and ends. `at` stays within the text, and the measure is how far it is from its end.
 -- Assumes nothing.
 use Prim.Native.Nat.{_-_, _≤_}
 use lib.ListN.{length}
 use borrow.Author.Needs.{needs}
-use Rattle.cases.proofs.case.name_end.Statement.{statement}
-use Rattle.cases.proofs.case.name_end.Tie as tie
+use Rattle.cases_line.proofs.name.name_end.Statement.{statement}
+use Rattle.cases_line.proofs.name.name_end.Tie as tie
 
 abbrev Inv-loop : tie.InvT-loop
 Inv-loop text at₀ at = at ≤ length text
