@@ -67,7 +67,7 @@ def row(words):
 
 
 def sum_of(words):
-    """Words in one number. crates/shown/src/sum.rt states the same formula."""
+    """Words in one number. crates/cases_shown/src/sum.rt states the same formula."""
     found = 0
     for word in words:
         found = (31 * found + word) % MODULUS
