@@ -7,7 +7,8 @@ use native.Mathlib.Omega.{arith}
 use lib.Dec.{ltb}
 use borrow.Author.Tests.{ltb-true, ltb-false, le-leb, lt-leb}
 use Rattle.maxplus.specs.declared.Reading.{Reading}
-use Rattle.maxplus.specs.inside.Pass.{refusedReading, readAt, Decides, Follows}
+use Rattle.forwards.specs.inside.Due.{Decides}
+use Rattle.maxplus.specs.inside.Pass.{refusedReading, readAt, Follows}
 
 pub follow-not : (count m p n q : ℕ) → (count ≡ 0 → ⊥) → m ≤ n → Decides false (Follows count m p n q)
 follow-not count m p n q h k f = let t = f h in omega arith

@@ -1,5 +1,3 @@
-pub mod Decisions
-pub mod LinkLaws
 pub mod ItemTests
 pub mod Following
 pub mod Answering

@@ -24,8 +24,9 @@ use Rattle.arena.proofs.Summing.{suffixes-agree}
 use Rattle.arena.proofs.ListLaws.{held-length}
 use Rattle.arena.proofs.HeldLaws.{passedSums, sums-on}
 use Rattle.maxplus.specs.Read.{readItem, reading}
-use Rattle.maxplus.specs.inside.Pass.{refusedReading, readAt, Decides, Stands, Are, Passed, Follows}
-use Rattle.maxplus.proofs.Decisions.{decided, refuted}
+use Rattle.forwards.specs.inside.Due.{Decides, Are, Passed}
+use Rattle.maxplus.specs.inside.Pass.{refusedReading, readAt, Stands, Follows}
+use Rattle.forwards.proofs.Decisions.{decided, refuted}
 use Rattle.maxplus.proofs.Following.{due, due-here, due-past, Rest, Meets, Turn, turn, turn-back, rest-full, rest-over, rest-none}
 use Rattle.maxplus.proofs.Answering.{lazy-rest, rest-lazy, no-list, list-read}
 

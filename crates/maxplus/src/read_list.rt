@@ -7,11 +7,9 @@ ghost use Rattle.checks.specs.Limits.{bufferWords};
 ghost use Rattle.arena.specs.Arena.{level, mWord};
 ghost use Rattle.arena.specs.inside.Sums.{Summable, TrueP};
 ghost use Rattle.maxplus.specs.Read.{readItem, reading};
-ghost use Rattle.maxplus.specs.inside.Pass.{refusedReading, readAt, Decides, Stands, Follows};
+ghost use Rattle.forwards.specs.inside.Due.{Decides};
+ghost use Rattle.maxplus.specs.inside.Pass.{refusedReading, readAt, Stands, Follows};
 use crate::Reading;
-use crate::links::due_from_head;
-use crate::links::none_due;
-use crate::links::pass_links;
 use arena::sums::enter;
 use arena::sums::true_p;
 use arena::words::FORWARD;
@@ -21,6 +19,9 @@ use arena::words::get;
 use arena::words::wide;
 use checks::limits::SIZES;
 use checks::limits::WORDS;
+use forwards::due::due_from_head;
+use forwards::due::none_due;
+use forwards::due::pass_links;
 
 // The most records that a list has.
 const MOST: u32 = SIZES as u32;

@@ -7,7 +7,7 @@ use arena::words::FORWARD;
 use arena::words::M;
 use arena::words::get;
 use arena::words::wide;
-use moving::linked_run::linked_run;
+use cutting::linked_run::linked_run;
 use moving::walk_run::walk_run;
 use searching::search::may_pass;
 

@@ -7,8 +7,8 @@ use arena::words::FORWARD;
 use arena::words::M;
 use arena::words::get;
 use arena::words::wide;
+use cutting::linked_run::linked_run;
 use dropping::drop_tied::drop_tied;
-use moving::linked_run::linked_run;
 use moving::walk_run::walk_run;
 use searching::search::may_pass;
 

@@ -1,12 +1,11 @@
 -- What the parts of the pass over a list answer. The contracts inside the reading call cite these, and no public one does.
 use mathlib.Core.Path.{_≡_}
-use mathlib.Core.Bool.{Bool, true, false, cond, _&&_}
+use mathlib.Core.Bool.{cond, _&&_}
 use mathlib.Core.List.{List}
 use Prim.Native.Nat.{ℕ, _≤_, _<_}
 use lib.Dec.{leb}
-use lib.ListN.{length, getD}
 use Rattle.checks.specs.Limits.{mostSizes}
-use Rattle.arena.specs.Arena.{level, forward}
+use Rattle.arena.specs.Arena.{level}
 use Rattle.maxplus.specs.declared.Reading.{Reading}
 
 -- A call that is refused.
@@ -17,27 +16,12 @@ refusedReading n = record { number = n; m = 0; p = 0 }
 unfoldable pub readAt : ℕ → ℕ → ℕ → ℕ → Reading
 readAt count place m p = cond (leb 1 place && leb place count) (record { number = 0; m = m; p = p }) (refusedReading 21)
 
--- The answer b says whether P holds.
-abbrev pub Decides : Bool → Type 0 → Type 0
-Decides true P = P
-Decides false P = P → ⊥
-
 -- Record r may stand on a list after `count` others: a list has at most 512 records, numbered 1 to 512, of levels 1 to 8.
 pub record Stands (a : List ℕ) (count r : ℕ) : Type 0 where
   pub room : count < mostSizes
   pub few : r ≤ mostSizes
   pub some : 1 ≤ level a r
   pub most : level a r ≤ 8
-
--- The words of l from link 1 up to link n are x.
-unfoldable pub Are : List ℕ → ℕ → ℕ → Type 0
-Are l n x = (k : ℕ) → 1 ≤ k → k < n → getD l k 0 ≡ x
-
--- The forwards of record r from link 1 up, as far as it has links, stand in l, where before stood `first`.
-pub record Passed (a : List ℕ) (r : ℕ) (first l : List ℕ) : Type 0 where
-  pub long : length l ≡ length first
-  pub here : (k : ℕ) → 1 ≤ k → k < level a r → getD l k 0 ≡ forward a r k
-  pub past : (k : ℕ) → level a r ≤ k → getD l k 0 ≡ getD first k 0
 
 -- An item (n, q) may follow an item (m, p), where there is one: where count is not 0.
 abbrev pub Follows : ℕ → ℕ → ℕ → ℕ → ℕ → Type 0

@@ -5,7 +5,7 @@ use borrow.Author.Tests.{not-false}
 use Prim.Native.Nat.{_-_}
 use native.Mathlib.Omega.{arith}
 use Rattle.maxplus.specs.inside.Pass.{Follows}
-use Rattle.maxplus.proofs.Decisions.{decided}
+use Rattle.forwards.proofs.Decisions.{decided}
 use Rattle.maxplus.proofs.ReadingWalk.{Walking, head-enterable, walking-start, walk-barred, walk-summable, walk-unordered, walk-undue, walk-on, walk-loose, walk-read}
 use Rattle.maxplus.proofs.read_list.read_from_head.Statement.{statement}
 use Rattle.maxplus.proofs.read_list.read_from_head.Tie as tie

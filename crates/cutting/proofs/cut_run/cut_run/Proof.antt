@@ -1,10 +1,10 @@
--- `moving::cut_run::cut_run` meets its contract: the front stands behind the open list, raised, the list keeps the rest, and the sums kept are right again.
+-- `cutting::cut_run::cut_run` meets its contract: the front stands behind the open list, raised, the list keeps the rest, and the sums kept are right again.
 -- The calls are those whose effects `Advancing` puts together.
 use mathlib.Core.List.{_∷_}
 use borrow.Author.Needs.{needs}
 use Rattle.moving.proofs.Advancing.{can-settle, can-relink, moved, moved-cached}
-use Rattle.moving.proofs.cut_run.cut_run.Statement.{statement}
-use Rattle.moving.proofs.cut_run.cut_run.Tie as tie
+use Rattle.cutting.proofs.cut_run.cut_run.Statement.{statement}
+use Rattle.cutting.proofs.cut_run.cut_run.Tie as tie
 
 count-links-requires : tie.Need-count-links-requires
 count-links-requires c κs = search needs

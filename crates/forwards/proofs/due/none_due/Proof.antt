@@ -1,10 +1,10 @@
--- `maxplus::links::none_due` meets its contract.
+-- `forwards::due::none_due` meets its contract.
 -- The loop keeps `Free`, that no word before place k names a record; the measure is what is left of the words.
 use borrow.Author.Needs.{needs}
 use Prim.Native.Nat.{_-_}
-use Rattle.maxplus.proofs.LinkLaws.{Free, free-start, free-more, free-not, free-all}
-use Rattle.maxplus.proofs.links.none_due.Statement.{statement}
-use Rattle.maxplus.proofs.links.none_due.Tie as tie
+use Rattle.forwards.proofs.LinkLaws.{Free, free-start, free-more, free-not, free-all}
+use Rattle.forwards.proofs.due.none_due.Statement.{statement}
+use Rattle.forwards.proofs.due.none_due.Tie as tie
 
 abbrev Inv-loop : tie.InvT-loop
 Inv-loop due k₀ k = Free due k

@@ -1,11 +1,11 @@
--- `moving::linked_run::linked_run` meets its contract, as each of the two ways that such a run can go meets it.
+-- `cutting::linked_run::linked_run` meets its contract, as each of the two ways that such a run can go meets it.
 -- Where the record after the first does not pass, the first is alone in front.
 use mathlib.Core.Path.{_≡_, _∙_}
 use borrow.Author.Needs.{needs}
 use Rattle.arena.specs.Arena.{word}
 use Rattle.moving.proofs.OneLaws.{first-has, after-reach, after-passes}
-use Rattle.moving.proofs.linked_run.linked_run.Statement.{statement}
-use Rattle.moving.proofs.linked_run.linked_run.Tie as tie
+use Rattle.cutting.proofs.linked_run.linked_run.Statement.{statement}
+use Rattle.cutting.proofs.linked_run.linked_run.Tie as tie
 
 -- The function's entry, and the first record.
 module _ (c : tie.After-wide) where

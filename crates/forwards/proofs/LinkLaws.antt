@@ -11,7 +11,7 @@ use Rattle.arena.specs.Arena.{word, level, forward, adjust}
 use Rattle.arena.specs.inside.Sums.{Summable, Renewed}
 use Rattle.arena.proofs.Cases.{eq-or-ne, lt-or-ge}
 use Rattle.arena.proofs.Summing.{Renewing, renewing-start, renewing-more, passing-done}
-use Rattle.maxplus.specs.inside.Pass.{Decides, Are, Passed}
+use Rattle.forwards.specs.inside.Due.{Decides, Are, Passed}
 
 -- The forwards of record r from link l up are in their places.
 pub record Relinking (a : List ℕ) (r : ℕ) (first e : List ℕ) (l : ℕ) : Type 0 where

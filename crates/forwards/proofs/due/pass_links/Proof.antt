@@ -1,10 +1,10 @@
--- `maxplus::links::pass_links` meets its contract.
+-- `forwards::due::pass_links` meets its contract.
 -- The loop keeps `Passing`, that the record was due with its links from l up and that these are passed; the measure is l.
 use borrow.Author.Needs.{needs}
-use Rattle.maxplus.proofs.Decisions.{no-yes}
-use Rattle.maxplus.proofs.LinkLaws.{Passing, passing-start, passing-more, passing-not, passing-met, passing-due, passing-sums}
-use Rattle.maxplus.proofs.links.pass_links.Statement.{statement}
-use Rattle.maxplus.proofs.links.pass_links.Tie as tie
+use Rattle.forwards.proofs.Decisions.{no-yes}
+use Rattle.forwards.proofs.LinkLaws.{Passing, passing-start, passing-more, passing-not, passing-met, passing-due, passing-sums}
+use Rattle.forwards.proofs.due.pass_links.Statement.{statement}
+use Rattle.forwards.proofs.due.pass_links.Tie as tie
 
 abbrev Inv-loop : tie.InvT-loop
 Inv-loop arena r due₀ sums₀ l₀ due sums l = Passing arena r due₀ sums₀ due sums l

@@ -7,7 +7,7 @@ ghost use lib.ListN.{length};
 ghost use Rattle.arena.specs.Arena.{level};
 ghost use Rattle.arena.specs.inside.Chain.{Has};
 ghost use Rattle.arena.specs.inside.Sums.{Summable, Renewed};
-ghost use Rattle.maxplus.specs.inside.Pass.{Decides, Are, Passed};
+ghost use Rattle.forwards.specs.inside.Due.{Decides, Are, Passed};
 use arena::words::ADJUST;
 use arena::words::FORWARD;
 use arena::words::LEVEL;

@@ -1,9 +1,9 @@
--- `maxplus::links::due_from_head` meets its contract.
+-- `forwards::due::due_from_head` meets its contract.
 -- The loop keeps `Relinking`, that the head's forwards from link l up are in their places; the measure is l.
 use borrow.Author.Needs.{needs}
-use Rattle.maxplus.proofs.LinkLaws.{Relinking, relinking-start, relinking-more, relinking-done}
-use Rattle.maxplus.proofs.links.due_from_head.Statement.{statement}
-use Rattle.maxplus.proofs.links.due_from_head.Tie as tie
+use Rattle.forwards.proofs.LinkLaws.{Relinking, relinking-start, relinking-more, relinking-done}
+use Rattle.forwards.proofs.due.due_from_head.Statement.{statement}
+use Rattle.forwards.proofs.due.due_from_head.Tie as tie
 
 abbrev Inv-loop : tie.InvT-loop
 Inv-loop arena due₀ l₀ due l = Relinking arena 0 due₀ due l

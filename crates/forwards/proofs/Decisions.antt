@@ -4,7 +4,7 @@ use mathlib.Core.Path.{_≡_, sym}
 use mathlib.Core.Bool.{Bool, true, false, not}
 use Prim.Native.Nat.{ℕ}
 use native.Mathlib.Omega.{arith}
-use Rattle.maxplus.specs.inside.Pass.{Decides}
+use Rattle.forwards.specs.inside.Due.{Decides}
 
 pub no-yes : {P : Type 0} → false ≡ true → P
 no-yes e = absurd (let n : _≡_ {A = ℕ} 0 1 = cc in omega arith)

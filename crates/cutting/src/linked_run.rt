@@ -4,12 +4,12 @@ ghost use mathlib.Core.Bool.{true};
 ghost use Rattle.arena.specs.Arena.{forward};
 ghost use Rattle.searching.specs.inside.Cut.{passes};
 ghost use Rattle.settling.specs.inside.Cached.{Cached};
 ghost use Rattle.moving.specs.inside.Advance.{RunReady, RunMoved};
 use crate::cut_run::cut_run;
-use crate::move_one::move_one;
 use arena::words::FORWARD;
 use arena::words::get;
 use arena::words::wide;
+use moving::move_one::move_one;
 use searching::search::may_pass;
 
 // Moves the records in front of a list, one of which has link 1, behind an open list: at once where it is one record, which
