@@ -11,7 +11,7 @@ use borrow.Author.Tests.{lt-ltb, le-ltb}
 use Rattle.arena.specs.Arena.{level, pWord, forward, adjust}
 use Rattle.arena.specs.Lazy.{nextWith, lastWith, sumFrom}
 use Rattle.arena.specs.inside.Chain.{Has, All, Away, Ending, closed, growing, Right, LinksOf, MemberOf, ChainOf, LinkedOf, Chain, pUnder, after, trues, Same, Shape, Value}
-use Rattle.arena.specs.inside.Building.{Built}
+use Rattle.arena.specs.inside.Built.{Built}
 use Rattle.arena.proofs.Cases.{lt-or-ge}
 use Rattle.arena.proofs.SumLaws.{sum-agree, sum-frame}
 

@@ -2,9 +2,6 @@ pub mod Cases
 pub mod PutLaws
 pub mod SumLaws
 pub mod Frames
-pub mod HookLaws
-pub mod PrependLaws
-pub mod ClearLaws
 pub mod Summing
 pub mod Walking
 pub mod ListLaws

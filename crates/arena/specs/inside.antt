@@ -1,4 +1,4 @@
 pub mod Chain
-pub mod Building
+pub mod Built
 pub mod Sums
 pub mod Carried

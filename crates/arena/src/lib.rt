@@ -1,6 +1,4 @@
-// Records in a lent arena: their words, and lists of them that are made anew.
-pub mod empty;
-pub mod prepend;
+// Records in a lent arena: their words, and the sums of a walk along a list of them.
 pub mod sums;
 pub mod words;
 

@@ -7,12 +7,13 @@ use native.Mathlib.Omega.{arith}
 use lib.ListN.{length}
 use Rattle.arena.specs.Arena.{level, mWord, pWord, levelAt, mAt, pAt, forwardAt}
 use Rattle.arena.specs.inside.Chain.{Has, put, All, Away, trues, Same}
-use Rattle.arena.specs.inside.Building.{Hooked, Built, Fresh, Prepended}
+use Rattle.arena.specs.inside.Built.{Built}
+use Rattle.building.specs.inside.Building.{Hooked, Fresh, Prepended}
 use Rattle.loading.specs.inside.Loading.{written, Placed}
 use Rattle.arena.proofs.PutLaws.{length-put, word-same, word-other-record, word-other-field, put-swap, same-trans}
 use Rattle.arena.proofs.Frames.{all-map, same-value, built-frame, trues-frame}
-use Rattle.arena.proofs.HookLaws.{hooked-all}
-use Rattle.arena.proofs.PrependLaws.{prepended}
+use Rattle.building.proofs.HookLaws.{hooked-all}
+use Rattle.building.proofs.PrependLaws.{prepended}
 
 module _ (a : List ℕ) (r l m p : ℕ) where
   written-long : length (written a r l m p) ≡ length a

@@ -1,15 +1,15 @@
 // A list made of a gauge's sizes.
 ghost use mathlib.Core.Path.{_≡_};
 ghost use Prim.Native.Nat.{_≤_, _<_};
-ghost use Rattle.arena.specs.inside.Building.{Hookable};
+ghost use Rattle.building.specs.inside.Building.{Hookable};
 ghost use Rattle.loading.specs.inside.Loading.{Placed, Loadable, Loaded};
-use arena::empty::clear_head;
-use arena::prepend::prepend;
 use arena::words::FORWARD;
 use arena::words::LEVEL;
 use arena::words::M;
 use arena::words::P;
 use arena::words::store;
+use building::empty::clear_head;
+use building::prepend::prepend;
 use entries::size_in;
 
 // A byte as a word.

@@ -11,7 +11,8 @@ use Rattle.slicing.specs.Recorded.{Recorded, mergeRecorded, items}
 use Rattle.arena.specs.Arena.{mWord, adjust}
 use Rattle.arena.specs.Lazy.{held}
 use Rattle.arena.specs.inside.Chain.{All, Away, Linked, Same, pUnder, after, trues}
-use Rattle.arena.specs.inside.Building.{Built, Cleared}
+use Rattle.arena.specs.inside.Built.{Built}
+use Rattle.building.specs.inside.Building.{Cleared}
 use Rattle.arena.specs.inside.Sums.{Suffixes}
 use Rattle.arena.specs.inside.Carried.{carried}
 use Rattle.arena.proofs.Frames.{all-map, all-both, all-refl, same-shape, linked-frame, trues-frame}

@@ -3,7 +3,7 @@ ghost use mathlib.Core.List.{List};
 ghost use Prim.Native.Nat.{ℕ};
 ghost use Rattle.merging.specs.inside.Merge.{Mergeable, Merged};
 use crate::runs::merge_runs;
-use arena::empty::clear_head;
+use building::empty::clear_head;
 use splicing::close::close;
 
 // Makes the list of record 0 the merge of the lists of two heads: whole runs of records change lists at once, and an

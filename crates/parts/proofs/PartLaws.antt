@@ -9,7 +9,7 @@ use Rattle.slicing.specs.Recorded.{Recorded}
 use Rattle.arena.specs.Arena.{stride, word, level, adjust, levelAt, forwardAt, adjustAt}
 use Rattle.arena.specs.Lazy.{held}
 use Rattle.arena.specs.inside.Chain.{Has, All, Away, Same}
-use Rattle.arena.specs.inside.Building.{Built}
+use Rattle.arena.specs.inside.Built.{Built}
 use Rattle.arena.proofs.Frames.{all-map, same-shape, next-frame, chain-frame}
 use Rattle.arena.proofs.ListLaws.{held-length}
 use Rattle.arena.proofs.HeldLaws.{held-carried}

@@ -6,11 +6,11 @@ use Prim.Native.Nat.{ℕ, _+_, _-_, _%_, _^_, _≤_, _<_}
 use native.Mathlib.Omega.{arith}
 use lib.ListN.{getD, set}
 use Rattle.arena.specs.Arena.{level, adjust}
-use Rattle.arena.specs.inside.Building.{hook1, Hooked}
+use Rattle.building.specs.inside.Building.{hook1, Hooked}
 use Rattle.arena.specs.inside.Sums.{Renewed}
 use Rattle.turning.specs.inside.Turning.{Turnable1}
 use Rattle.arena.proofs.Summing.{Renewing, renewing-start, renewing-more, passing-done}
-use Rattle.arena.proofs.HookLaws.{Prepending, prepending-start, prepending-more, prepending-done}
+use Rattle.building.proofs.HookLaws.{Prepending, prepending-start, prepending-more, prepending-done}
 
 -- The links from l up are put before the list, and the sums from l up are those after the record.
 pub record LinkTurning (a : List ℕ) (h r : ℕ) (sums b left : List ℕ) (l : ℕ) : Type 0 where

@@ -7,14 +7,15 @@ use native.Mathlib.Omega.{arith}
 use lib.ListN.{length}
 use Rattle.arena.specs.Arena.{stride, word, level, mWord, pWord, levelAt, mAt, pAt, forwardAt, adjustAt}
 use Rattle.arena.specs.inside.Chain.{Has, put, All, pUnder, after, trues, Same}
-use Rattle.arena.specs.inside.Building.{Hooked, Built, Fresh, Prepended}
+use Rattle.arena.specs.inside.Built.{Built}
+use Rattle.building.specs.inside.Building.{Hooked, Fresh, Prepended}
 use Rattle.arena.specs.inside.Sums.{Suffixes, TrueP, Renewed}
 use Rattle.turning.specs.inside.Turning.{swapped, TakenOver, Turnable1}
 use Rattle.arena.proofs.PutLaws.{length-put, word-same, word-other-record, word-other-field, put-swap, same-trans}
 use Rattle.arena.proofs.Frames.{all-map, same-value, built-frame, under-frame, trues-frame}
 use Rattle.arena.proofs.Summing.{passed-kept}
-use Rattle.arena.proofs.HookLaws.{hooked-all}
-use Rattle.arena.proofs.PrependLaws.{prepended}
+use Rattle.building.proofs.HookLaws.{hooked-all}
+use Rattle.building.proofs.PrependLaws.{prepended}
 
 module _ (a : List ℕ) (f : ℕ → ℕ) (r : ℕ) where
   pub swapped-long : length (swapped a f r) ≡ length a

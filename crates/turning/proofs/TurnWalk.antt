@@ -7,12 +7,12 @@ use native.Mathlib.Omega.{arith}
 use lib.ListN.{length, getD}
 use Rattle.arena.specs.Arena.{stride, word, level, mWord, adjust, levelAt, mAt, forwardAt, adjustAt}
 use Rattle.arena.specs.inside.Chain.{Has, put, All, Linked, after, trues, Same}
-use Rattle.arena.specs.inside.Building.{Cleared}
+use Rattle.building.specs.inside.Building.{Cleared}
 use Rattle.arena.specs.inside.Sums.{Suffixes, Enterable, Renewed}
 use Rattle.turning.specs.inside.Turning.{TakenOver, Turnable1, Turnable, Turned}
 use Rattle.arena.proofs.PutLaws.{length-put, word-other-record, word-other-field, same-trans}
 use Rattle.arena.proofs.Frames.{all-map, all-refl, all-both, map-same, same-shape, same-value, linked-frame, trues-frame}
-use Rattle.arena.proofs.ClearLaws.{cleared-first}
+use Rattle.building.proofs.ClearLaws.{cleared-first}
 use Rattle.arena.proofs.Summing.{passed-kept}
 use Rattle.turning.proofs.Swaps.{Turned1, turned-beside}
 use Rattle.arena.proofs.Walking.{count, next-none, next-first, count-is, one-list}

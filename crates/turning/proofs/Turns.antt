@@ -8,7 +8,8 @@ use lib.ListN.{length}
 use Rattle.arena.specs.Arena.{word, level, mWord, pWord, levelAt, mAt, forwardAt}
 use Rattle.arena.specs.Lazy.{nextWith}
 use Rattle.arena.specs.inside.Chain.{All, Away, Member, Chain, after, trues, Same}
-use Rattle.arena.specs.inside.Building.{Built, Fresh}
+use Rattle.arena.specs.inside.Built.{Built}
+use Rattle.building.specs.inside.Building.{Fresh}
 use Rattle.arena.proofs.PutLaws.{same-refl, same-trans}
 use Rattle.arena.proofs.Frames.{all-map, all-refl, all-both, map-same, same-shape, same-value, next-frame, chain-frame, trues-frame}
 use Rattle.turning.proofs.Swaps.{Turned1}

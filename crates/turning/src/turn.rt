@@ -2,11 +2,9 @@
 ghost use mathlib.Core.List.{List};
 ghost use Prim.Native.Nat.{ℕ};
 ghost use Rattle.arena.specs.Arena.{level};
-ghost use Rattle.arena.specs.inside.Building.{Hooked};
+ghost use Rattle.building.specs.inside.Building.{Hooked};
 ghost use Rattle.arena.specs.inside.Sums.{Suffixes, Renewed};
 ghost use Rattle.turning.specs.inside.Turning.{TakenOver, Turnable1, Turnable, Turned};
-use arena::empty::clear_head;
-use arena::prepend::hook;
 use arena::sums::enter;
 use arena::sums::true_p;
 use arena::words::ADJUST;
@@ -17,6 +15,8 @@ use arena::words::P;
 use arena::words::get;
 use arena::words::store;
 use arena::words::wide;
+use building::empty::clear_head;
+use building::prepend::hook;
 
 // Renews the sums by a record's adjusts, as `pass` does, and puts its links from 1 up before the list of a head.
 fn turn_links(arena: &mut [u32], to: usize, r: usize, sums: &mut [u32])

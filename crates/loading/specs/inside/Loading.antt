@@ -7,7 +7,8 @@ use Rattle.slicing.specs.Item.{Item}
 use Rattle.entries.specs.inside.Sizes.{sizesIn, Sized}
 use Rattle.arena.specs.Arena.{stride, level, mWord, levelAt, mAt, pAt, forwardAt}
 use Rattle.arena.specs.inside.Chain.{Has, put, Away, trues, Same}
-use Rattle.arena.specs.inside.Building.{Hooked, Built}
+use Rattle.arena.specs.inside.Built.{Built}
+use Rattle.building.specs.inside.Building.{Hooked}
 
 -- The n numbers from r on.
 unfoldable pub numbers : ℕ → ℕ → List ℕ

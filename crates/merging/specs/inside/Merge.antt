@@ -9,7 +9,7 @@ use Rattle.slicing.specs.Recorded.{Recorded, mergeRecorded, items}
 use Rattle.arena.specs.Arena.{level}
 use Rattle.arena.specs.Lazy.{held}
 use Rattle.arena.specs.inside.Chain.{Has, All, Away, Same}
-use Rattle.arena.specs.inside.Building.{Built}
+use Rattle.arena.specs.inside.Built.{Built}
 use Rattle.stepping.specs.inside.Trio.{Roomy}
 
 -- The lists xs and ys of the heads ho and hn, whose adjusts are 0, share nothing and hc is apart from both; they are ordered, and no sum of a p of each leaves 32 bits.

@@ -10,7 +10,7 @@ use Rattle.slicing.specs.Recorded.{Recorded, items, partRecorded}
 use Rattle.arena.specs.Arena.{level}
 use Rattle.arena.specs.Lazy.{held}
 use Rattle.arena.specs.inside.Chain.{All}
-use Rattle.arena.specs.inside.Building.{Built}
+use Rattle.arena.specs.inside.Built.{Built}
 
 -- The first record that is no size's, and so may be a head.
 abbrev pub firstHead : ℕ

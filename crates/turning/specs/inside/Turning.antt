@@ -6,7 +6,8 @@ use lib.ListN.{length}
 use Rattle.checks.specs.Limits.{mostSizes}
 use Rattle.arena.specs.Arena.{level, mWord, pWord, adjust, mAt, pAt, forwardAt}
 use Rattle.arena.specs.inside.Chain.{Has, put, All, Away, Linked, pUnder, trues, Same}
-use Rattle.arena.specs.inside.Building.{Hooked, Hookable, Built}
+use Rattle.arena.specs.inside.Built.{Built}
+use Rattle.building.specs.inside.Building.{Hooked, Hookable}
 use Rattle.arena.specs.inside.Sums.{Summable}
 
 -- Record r with its true p as m and its m as p.

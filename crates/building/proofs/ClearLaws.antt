@@ -6,12 +6,12 @@ use Prim.Native.Nat.{ℕ, _+_, _≤_, _<_}
 use native.Mathlib.Numerals.{add-one}
 use native.Mathlib.Omega.{arith}
 use lib.ListN.{length}
 use Rattle.arena.specs.Arena.{stride, word}
 use Rattle.arena.specs.Lazy.{nextWith}
 use Rattle.arena.specs.inside.Chain.{Has, put, Same}
-use Rattle.arena.specs.inside.Building.{Cleared}
+use Rattle.building.specs.inside.Building.{Cleared}
 use Rattle.arena.proofs.Cases.{last-or-below}
 use Rattle.arena.proofs.PutLaws.{length-put, word-same, word-other-record, word-other-field, put-same, same-refl}
 
 -- What the loop keeps: words 1 to j - 1 of the head are 0.
 pub record Clearing (a : List ℕ) (h : ℕ) (b : List ℕ) (j : ℕ) : Type 0 where

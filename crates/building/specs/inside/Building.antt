@@ -3,8 +3,9 @@ use mathlib.Core.Path.{_≡_}
 use mathlib.Core.List.{List, [], _∷_}
 use Prim.Native.Nat.{ℕ, _+_, _%_, _^_, _≤_, _<_}
 use lib.ListN.{length}
 use Rattle.arena.specs.Arena.{word, level, mWord, pWord, forward, adjust, forwardAt, adjustAt}
-use Rattle.arena.specs.inside.Chain.{Has, put, Away, Linked, trues, Same}
+use Rattle.arena.specs.inside.Chain.{Has, put, Away, trues, Same}
+use Rattle.arena.specs.inside.Built.{Built}
 
 -- Link k of record r before what follows the head h: r takes the head's forward, and the head's forward is r.
 unfoldable pub hook1 : List ℕ → ℕ → ℕ → ℕ → List ℕ
@@ -29,11 +30,6 @@ pub record Hookable (a : List ℕ) (h r : ℕ) : Type 0 where
   pub has : Has a r
   pub apart : r ≡ h → ⊥
   pub fits : r < 4_294_967_296
-
--- A list that is being built: the records rs are the list of the head h, whose adjusts are 0.
-pub record Built (a : List ℕ) (h : ℕ) (rs : List ℕ) : Type 0 where
-  pub linked : Linked a h rs
-  pub still : (k : ℕ) → k < 8 → adjust a h k ≡ 0
 
 -- The record r can stand before the records rs of the head h.
 pub record Fresh (a : List ℕ) (h r : ℕ) (rs : List ℕ) : Type 0 where

@@ -5,11 +5,11 @@ use mathlib.Core.List.{List}
 use Prim.Native.Nat.{ℕ, suc, _+_, _-_, _≤_, _<_}
 use native.Mathlib.Omega.{arith}
 use lib.ListN.{length}
 use Rattle.arena.specs.Arena.{stride, word, level, forward, adjust}
 use Rattle.arena.specs.inside.Chain.{Has, put}
-use Rattle.arena.specs.inside.Building.{hook1, Hooked, Hookable}
+use Rattle.building.specs.inside.Building.{hook1, Hooked, Hookable}
 use Rattle.arena.proofs.Cases.{eq-or-ne}
 use Rattle.arena.proofs.PutLaws.{length-put, word-same, word-other-record, word-other-field, same-refl}
 
 hooked-none : (n : ℕ) (a : List ℕ) (h r : ℕ) → Hooked n n a h r a
 hooked-none n a h r =

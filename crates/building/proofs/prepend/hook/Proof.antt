@@ -1,9 +1,9 @@
--- `arena::prepend::hook` meets its contract.
+-- `building::prepend::hook` meets its contract.
 -- Its three stores are those of `hook1`, in the same order.
 use borrow.Author.Needs.{needs}
-use Rattle.arena.specs.inside.Building.{hook1}
-use Rattle.arena.proofs.prepend.hook.Statement.{statement}
-use Rattle.arena.proofs.prepend.hook.Tie as tie
+use Rattle.building.specs.inside.Building.{hook1}
+use Rattle.building.proofs.prepend.hook.Statement.{statement}
+use Rattle.building.proofs.prepend.hook.Tie as tie
 
 add-get : tie.Need-add-get
 add-get c = search needs

@@ -1,9 +1,9 @@
--- `arena::prepend::prepend` meets its contract.
+-- `building::prepend::prepend` meets its contract.
 -- The loop keeps `Prepending`, that the links from l up are hooked; the measure is l.
 use borrow.Author.Needs.{needs}
-use Rattle.arena.proofs.HookLaws.{Prepending, prepending-start, prepending-more, prepending-done}
-use Rattle.arena.proofs.prepend.prepend.Statement.{statement}
-use Rattle.arena.proofs.prepend.prepend.Tie as tie
+use Rattle.building.proofs.HookLaws.{Prepending, prepending-start, prepending-more, prepending-done}
+use Rattle.building.proofs.prepend.prepend.Statement.{statement}
+use Rattle.building.proofs.prepend.prepend.Tie as tie
 
 abbrev Inv-loop : tie.InvT-loop
 Inv-loop arena₀ head r l₀ arena l = Prepending arena₀ head r arena l

@@ -1,11 +1,11 @@
--- `arena::empty::clear_head` meets its contract.
+-- `building::empty::clear_head` meets its contract.
 -- The loop keeps `Clearing`, that the words of the head from 1 up to j are 0; the measure is what is left of the record.
 use borrow.Author.Needs.{needs}
 use Prim.Native.Nat.{_-_}
 use Rattle.arena.specs.Arena.{stride}
-use Rattle.arena.proofs.ClearLaws.{Clearing, clearing-start, clearing-more, clearing-done}
-use Rattle.arena.proofs.empty.clear_head.Statement.{statement}
-use Rattle.arena.proofs.empty.clear_head.Tie as tie
+use Rattle.building.proofs.ClearLaws.{Clearing, clearing-start, clearing-more, clearing-done}
+use Rattle.building.proofs.empty.clear_head.Statement.{statement}
+use Rattle.building.proofs.empty.clear_head.Tie as tie
 
 abbrev Inv-loop : tie.InvT-loop
 Inv-loop arena₀ head j₀ arena j = Clearing arena₀ head arena j

@@ -1,9 +1,9 @@
 // The head of an empty list.
 ghost use Rattle.arena.specs.inside.Chain.{Has};
-ghost use Rattle.arena.specs.inside.Building.{Cleared};
-use crate::STRIDE;
-use crate::words::LEVEL;
-use crate::words::store;
+ghost use Rattle.building.specs.inside.Building.{Cleared};
+use arena::STRIDE;
+use arena::words::LEVEL;
+use arena::words::store;
 
 // Makes a record the head of an empty list: level 8, and every other word 0.
 pub fn clear_head(arena: &mut [u32], head: usize)

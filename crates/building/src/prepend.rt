@@ -1,14 +1,14 @@
 // A record put before the records of a list. A list is built so, from its last record to its first.
 ghost use mathlib.Core.Path.{_≡_};
 ghost use Prim.Native.Nat.{_≤_, _<_};
 ghost use Rattle.arena.specs.Arena.{level};
-ghost use Rattle.arena.specs.inside.Building.{hook1, Hooked, Hookable};
-use crate::words::ADJUST;
-use crate::words::FORWARD;
-use crate::words::LEVEL;
-use crate::words::get;
-use crate::words::store;
-use crate::words::wide;
+ghost use Rattle.building.specs.inside.Building.{hook1, Hooked, Hookable};
+use arena::words::ADJUST;
+use arena::words::FORWARD;
+use arena::words::LEVEL;
+use arena::words::get;
+use arena::words::store;
+use arena::words::wide;
 
 // Puts link k of record r between the head and what follows the head by it. The adjust is that of a head whose adjusts
 // are 0, so that the true p of what follows stays.

@@ -4,13 +4,14 @@ use mathlib.Core.Path.{_≡_, refl, sym, ap, ap₂, _∙_}
 use mathlib.Core.List.{List, _∷_}
 use Prim.Native.Nat.{ℕ, _%_, _^_, _≤_, _<_}
 use native.Mathlib.Omega.{arith}
 use Rattle.arena.specs.Arena.{level, pWord, forward}
 use Rattle.arena.specs.Lazy.{nextWith}
 use Rattle.arena.specs.inside.Chain.{All, Member, Chain, Linked, pUnder, after, trues, Same, closed}
-use Rattle.arena.specs.inside.Building.{Hooked, Built, Fresh, Prepended}
+use Rattle.arena.specs.inside.Built.{Built}
+use Rattle.building.specs.inside.Building.{Hooked, Fresh, Prepended}
 use Rattle.arena.proofs.Cases.{lt-or-ge}
 use Rattle.arena.proofs.SumLaws.{sum-zero}
 use Rattle.arena.proofs.Frames.{all-map, all-both, same-shape, same-value, next-here, next-past, next-frame, chain-frame, chain-low, after-in, after-out, trues-frame, lowest-free}
 
 module _ (a : List ℕ) (h r : ℕ) (rs b : List ℕ) (built : Built a h rs) (fresh : Fresh a h r rs) (s : Hooked 0 (level a r) a h r b) where
   linked : Linked a h rs

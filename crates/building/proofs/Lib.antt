@@ -1,0 +1,3 @@
+pub mod HookLaws
+pub mod PrependLaws
+pub mod ClearLaws
