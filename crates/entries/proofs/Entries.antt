@@ -17,11 +17,13 @@ use Rattle.slicing.specs.Tree.{Tree, gauge, beside, stacked, gaugesOf, sizesOf}
 use Rattle.entries.specs.declared.Cursor.{Cursor}
 use Rattle.entries.specs.declared.Step.{Step}
 use Rattle.entries.specs.declared.Step.the-variants.{Stop, Next}
-use Rattle.entries.specs.Entry.{State, skip, within, sizesFrom, gaugeTaken, gaugeSizes, gaugeEntry, joinParts, joinEntry, kindEntry, entry}
+use Rattle.sizes.specs.GaugeSizes.{within, sizesFrom}
+use Rattle.entries.specs.Entry.{State, skip, gaugeTaken, gaugeSizes, gaugeEntry, joinParts, joinEntry, kindEntry, entry}
 use Rattle.entries.specs.inside.Tracking.{flat, Fair, Tracks, Follows, Does, advance}
 use Rattle.entries.specs.inside.Kinds.{Cut}
-use Rattle.entries.proofs.Took.{state, within-true}
-use Rattle.entries.proofs.GoodSizes.{sizes-good}
+use Rattle.sizes.proofs.SizeChecks.{within-true}
+use Rattle.entries.proofs.Took.{state}
+use Rattle.sizes.proofs.GoodSizes.{sizes-good}
 use Rattle.entries.proofs.Stacks.{join-flat, gauges-join, sizes-join}
 
 follows-stop : (file : List ℕ) (a : Answer State) (k : Check) (n : ℕ) → a ≡ refused k → n ≡ numberOf k → Follows file a (Stop n)

@@ -1,7 +1,7 @@
 -- A taken run of entries as a relation: which bytes each entry had, and what it did to the stack. Every law of taken files goes by cases on it.
 -- It holds because a chain of questions is taken only where each was answered "yes".
 use mathlib.Core.Path.{_≡_, refl, sym, subst}
-use mathlib.Core.Bool.{Bool, true, false, cond, and-eq-true-iff}
+use mathlib.Core.Bool.{Bool, true, false, cond}
 use mathlib.Core.List.{List, [], _∷_}
 use Prim.Native.Nat.{ℕ, zero, suc, _+_, _*_, _≤_, _<_}
 use lib.ListN.{length, drop}
@@ -13,7 +13,9 @@ use Rattle.checks.proofs.Answers.{not-both, same-taken, ask-taken, next-taken}
 use Rattle.slicing.specs.Item.{Item}
 use Rattle.slicing.specs.Tree.{Tree, gauge, beside, stacked}
 use Rattle.entries.specs.inside.Kinds.{Cut, cut-beside, cut-stacked}
-use Rattle.entries.specs.Entry.{State, skip, within, sizesFrom, gaugeTaken, gaugeSizes, gaugeEntry, joinParts, joinEntry, kindEntry, entry, entries}
+use Rattle.sizes.specs.GaugeSizes.{within, sizesFrom}
+use Rattle.sizes.proofs.SizeChecks.{within-true}
+use Rattle.entries.specs.Entry.{State, skip, gaugeTaken, gaugeSizes, gaugeEntry, joinParts, joinEntry, kindEntry, entry, entries}
 
 abbrev pub state : List ℕ → List Tree → ℕ → State
 state rest parts g = record { rest = rest; stack = parts; gauges = g }
@@ -27,10 +29,6 @@ pub data Took : State → State → Type 0 where
 pub data Reads : ℕ → State → State → Type 0 where
   reads-none : (s : State) → Reads zero s s
   reads-more : (k : ℕ) (s t u : State) → Took s t → Reads k t u → Reads (suc k) s u
-
-pub within-true : (low high x : ℕ) → within low high x ≡ true → (low ≤ x) × (x ≤ high)
-within-true low high x e =
-    let both = and-eq-true-iff (leb low x) (leb x high) .0 e in (leb-true low x (both .0), leb-true x high (both .1))
 
 sizes-took : (count : ℕ) (bytes : List ℕ) (parts : List Tree) (g : ℕ) (s : State) → g < 64 → gaugeSizes count (state bytes parts g) ≡ taken s → Took (state (0x01 ∷ count ∷ bytes) parts g) s
 unfolding gaugeSizes

@@ -1,20 +1,14 @@
 -- Document 01, "The face file" and "The checks, as questions", entry by entry: what an entry does to the stack of parts, or the first of checks 5 to 11 that it fails.
-use mathlib.Core.Bool.{Bool, cond, _&&_}
+use mathlib.Core.Bool.{cond}
 use mathlib.Core.List.{List, [], _∷_}
 use Prim.Native.Nat.{ℕ, zero, suc, _+_, _*_}
 use lib.ListN.{length, getD, drop}
 use lib.Dec.{leb, ltb, eqb}
-use Rattle.checks.specs.Check.{Present, Kind, SizeCount, Limits, Order, Gauges, Join}
+use Rattle.checks.specs.Check.{Present, Kind, SizeCount, Gauges, Join}
 use Rattle.checks.specs.Answer.{Answer, refused, taken, ask, next}
-use Rattle.slicing.specs.Item.{Item, size, height, width}
+use Rattle.slicing.specs.Item.{Item}
 use Rattle.slicing.specs.Tree.{Tree, gauge, beside, stacked}
-
--- 16-bit fields have the high byte first: the field at a place of the bytes.
-abbrev pub field : List ℕ → ℕ → ℕ
-field s at = 256 * getD s at 0 + getD s (at + 1) 0
-
-abbrev pub within : ℕ → ℕ → ℕ → Bool
-within low high x = leb low x && leb x high
+use Rattle.sizes.specs.GaugeSizes.{within, sizesFrom}
 
 -- Where the reading of the entries stands: the bytes that are left, the stack of parts, the newest first, and the number of gauges so far.
 pub record State : Type 0 where
@@ -24,33 +18,6 @@ pub record State : Type 0 where
 
 abbrev pub skip : ℕ → State → State
 skip k s = record { rest = drop k (s .rest); stack = s .stack; gauges = s .gauges }
-
--- For each size a 16-bit height and a 16-bit width.
-abbrev pub sizeAt : List ℕ → Item
-sizeAt bytes = size (field bytes 0) (field bytes 2)
-
--- Height and width both 1 to 1,000?
-abbrev pub limited : Item → Bool
-limited z = within 1 1_000 (height z) && within 1 1_000 (width z)
-
--- Height less and width more than the size before?
-abbrev pub ordered : Item → Item → Bool
-ordered y z = ltb (height z) (height y) && ltb (width y) (width z)
-
--- For each size in turn, where y is the size before: 8, then 9.
-unfoldable pub sizesAfter : Item → ℕ → List ℕ → Answer (List Item)
-sizesAfter y zero bytes = taken []
-sizesAfter y (suc k) bytes =
-    ask (limited (sizeAt bytes)) Limits
-    (ask (ordered y (sizeAt bytes)) Order
-    (next (sizesAfter (sizeAt bytes) k (drop 4 bytes)) (λ zs. taken (sizeAt bytes ∷ zs))))
-
--- The first size has none before it.
-unfoldable pub sizesFrom : ℕ → List ℕ → Answer (List Item)
-sizesFrom zero bytes = taken []
-sizesFrom (suc k) bytes =
-    ask (limited (sizeAt bytes)) Limits
-    (next (sizesAfter (sizeAt bytes) k (drop 4 bytes)) (λ zs. taken (sizeAt bytes ∷ zs)))
 
 -- The gauge is a new part on the stack.
 abbrev pub gaugeTaken : State → List Item → Answer State

@@ -4,8 +4,8 @@ ghost use Rattle.entries.specs.inside.Tracking.{Fair, Does};
 use crate::Cursor;
 use crate::Step;
 use crate::entry::advanced;
-use crate::field::wide;
-use crate::sizes::read_sizes;
+use crate::gauge_sizes::read_sizes;
+use sizes::field::wide;
 
 // Checks 10 and 5, and then the sizes.
 pub fn read_gauge(file: &[u8], c: Cursor) -> Step

@@ -1,12 +1,9 @@
-// The entries of a face file: checks 5 to 11 on one entry, the sizes of a gauge, and the kinds of parts.
+// The entries of a face file: checks 5 to 11 on one entry, and the kinds of parts.
 pub mod entry;
-pub mod field;
 mod gauge;
+mod gauge_sizes;
 mod kinds;
-mod sizes;
 
-pub use field::is_within;
-pub use field::size_in;
 pub use kinds::runs_across;
 
 // The kind byte of an entry: a gauge, or a join of two parts side by side or stacked.
@@ -28,10 +25,4 @@ pub struct Cursor {
 pub enum Step {
     Stop(u32),
     Next(Cursor),
-}
-
-// A height and a width.
-pub struct Size {
-    pub height: u32,
-    pub width: u32,
 }

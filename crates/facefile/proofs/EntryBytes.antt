@@ -12,10 +12,10 @@ use Rattle.slicing.specs.Tree.{Tree, gauge}
 use Rattle.facefile.specs.declared.walk.GaugeEntry.{GaugeEntry}
 use Rattle.entries.specs.Entry.{State}
 use Rattle.entries.specs.inside.Kinds.{Cut, cut-beside, cut-stacked}
-use Rattle.entries.specs.inside.Sizes.{sizesIn}
+use Rattle.sizes.specs.inside.Sizes.{sizesIn}
 use Rattle.facefile.specs.inside.Walk.{stateAt}
 use Rattle.entries.proofs.Took.{state, Took, took-gauge, took-join}
-use Rattle.entries.proofs.SizesIn.{from-in, in-same}
+use Rattle.sizes.proofs.SizesIn.{from-in, in-same}
 
 -- What stands at a place of a list and after it, from what is left there.
 module _ (file : List ℕ) (at : ℕ) where

@@ -6,7 +6,8 @@ use Prim.Native.Nat.{ℕ}
 use Rattle.checks.specs.Answer.{taken}
 use Rattle.slicing.specs.Item.{size}
 use Rattle.slicing.specs.Tree.{gauge, beside}
-use Rattle.entries.specs.Entry.{sizesAfter, sizesFrom, gaugeSizes, gaugeEntry, joinParts, joinEntry, kindEntry, entry, entries}
+use Rattle.sizes.specs.GaugeSizes.{sizesAfter, sizesFrom}
+use Rattle.entries.specs.Entry.{gaugeSizes, gaugeEntry, joinParts, joinEntry, kindEntry, entry, entries}
 use Rattle.facefile.specs.Format.{header, onePart, atEnd, faceOf}
 use Rattle.facefile.specs.Gauge.{gaugeBytes}
 

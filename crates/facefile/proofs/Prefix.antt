@@ -14,9 +14,11 @@ use Rattle.checks.specs.Check.{Check, SizeCount, Present, Gauges}
 use Rattle.checks.specs.Answer.{Answer, refused, taken, ask, next}
 use Rattle.slicing.specs.Item.{Item}
 use Rattle.slicing.specs.Tree.{Tree, gauge, beside, stacked}
-use Rattle.entries.specs.Entry.{State, field, within, sizeAt, sizesAfter, sizesFrom, gaugeTaken, gaugeSizes, gaugeEntry, joinParts, joinEntry, kindEntry, entry, entries}
+use Rattle.sizes.specs.GaugeSizes.{field, within, sizeAt, sizesAfter, sizesFrom}
+use Rattle.entries.specs.Entry.{State, gaugeTaken, gaugeSizes, gaugeEntry, joinParts, joinEntry, kindEntry, entry, entries}
 use Rattle.facefile.specs.Format.{onePart, atEnd, header, start, faceOf}
-use Rattle.entries.proofs.Took.{state, within-true}
+use Rattle.sizes.proofs.SizeChecks.{within-true}
+use Rattle.entries.proofs.Took.{state}
 use Rattle.facefile.proofs.Taken.{header-taken}
 
 drop-take : (n m : ℕ) (l : List ℕ) → drop n (take m l) ≡ take (m - n) (drop n l)

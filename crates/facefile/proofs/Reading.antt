@@ -16,7 +16,8 @@ use Rattle.entries.specs.declared.Cursor.{Cursor}
 use Rattle.facefile.specs.declared.Face.{Face}
 use Rattle.entries.specs.declared.Step.{Step}
 use Rattle.entries.specs.declared.Step.the-variants.{Stop, Next}
-use Rattle.entries.specs.Entry.{State, field, within, entry, entries}
+use Rattle.sizes.specs.GaugeSizes.{field, within}
+use Rattle.entries.specs.Entry.{State, entry, entries}
 use Rattle.facefile.specs.Format.{marked, header, start, onePart, atEnd, faceOf}
 use Rattle.facefile.specs.Summary.{refusedFace, summary}
 use Rattle.entries.specs.inside.Tracking.{flat, Fair, Tracks, Follows, Does}

@@ -11,7 +11,8 @@ use Rattle.checks.proofs.Answers.{RefusedBy, ask-refused, next-refused}
 use Rattle.checks.proofs.FileChecks.{FileCheck, of-length, of-mark, of-version, of-entries, of-present, of-kind, of-size-count, of-limits, of-order, of-gauges, of-join, of-one-part, of-at-end}
 use Rattle.slicing.specs.Item.{Item}
 use Rattle.slicing.specs.Tree.{Tree, beside, stacked}
-use Rattle.entries.specs.Entry.{State, field, within, skip, limited, ordered, sizeAt, sizesAfter, sizesFrom, gaugeSizes, gaugeEntry, joinParts, joinEntry, kindEntry, entry, entries}
+use Rattle.sizes.specs.GaugeSizes.{field, within, limited, ordered, sizeAt, sizesAfter, sizesFrom}
+use Rattle.entries.specs.Entry.{State, skip, gaugeSizes, gaugeEntry, joinParts, joinEntry, kindEntry, entry, entries}
 use Rattle.facefile.specs.Format.{marked, header, start, onePart, atEnd, faceOf}
 
 -- The answer is no refusal but by a check of the file.

@@ -14,7 +14,7 @@ use Rattle.facefile.specs.declared.walk.Entry.the-variants.{Gauge, Join}
 use Rattle.facefile.specs.Format.{faceOf}
 use Rattle.facefile.specs.Gauge.{sizeBytes, gaugeNumbered, gaugeBytes}
 use Rattle.entries.specs.inside.Tracking.{flat}
-use Rattle.entries.specs.inside.Sizes.{sizesIn}
+use Rattle.sizes.specs.inside.Sizes.{sizesIn}
 use Rattle.facefile.specs.inside.Finding.{Found}
 use Rattle.facefile.specs.inside.Walk.{firstEntry, Walk, sizeBytesOf, GaugeAt, JoinAt, Finds}
 use Rattle.entries.proofs.Stacks.{join-flat, gauges-join}

@@ -8,10 +8,10 @@ use lib.ListN.{length, getD, take, drop, length-drop}
 use lib.Seq.{take-add, take-length, getD-drop}
 use Rattle.checks.specs.Answer.{taken}
 use Rattle.slicing.specs.Item.{Item}
-use Rattle.entries.specs.Entry.{sizeAt, sizesFrom}
+use Rattle.sizes.specs.GaugeSizes.{sizeAt, sizesFrom}
 use Rattle.facefile.specs.Gauge.{sizeBytes}
-use Rattle.entries.specs.inside.Sizes.{sizesIn, Sized}
-use Rattle.entries.proofs.SizesIn.{from-in}
+use Rattle.sizes.specs.inside.Sizes.{sizesIn, Sized}
+use Rattle.sizes.proofs.SizesIn.{from-in}
 
 -- Every element is a byte.
 abbrev pub Bytes : List ℕ → Type 0

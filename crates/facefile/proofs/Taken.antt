@@ -14,12 +14,14 @@ use Rattle.checks.proofs.Answers.{not-both, same-taken, ask-taken, next-taken}
 use Rattle.slicing.specs.Tree.{Tree, gaugesOf, gaugeCount, sizeCount}
 use Rattle.slicing.specs.Good.{Good}
 use Rattle.slicing.proofs.Counts.{counted}
-use Rattle.entries.specs.Entry.{State, field, within, entries}
+use Rattle.sizes.specs.GaugeSizes.{field, within}
+use Rattle.entries.specs.Entry.{State, entries}
 use Rattle.facefile.specs.Format.{marked, header, start, onePart, atEnd, faceOf}
 use Rattle.entries.specs.inside.Tracking.{flat}
 use Rattle.entries.specs.inside.Kinds.{Cut, cut-beside, cut-stacked}
-use Rattle.entries.proofs.Took.{state, within-true, Took, took-gauge, took-join, Reads, reads-none, reads-more, entries-read}
-use Rattle.entries.proofs.GoodSizes.{sizes-good}
+use Rattle.sizes.proofs.SizeChecks.{within-true}
+use Rattle.entries.proofs.Took.{state, Took, took-gauge, took-join, Reads, reads-none, reads-more, entries-read}
+use Rattle.sizes.proofs.GoodSizes.{sizes-good}
 use Rattle.entries.proofs.Stacks.{join-flat, gauges-join}
 
 -- What a taken header says.

@@ -12,7 +12,7 @@ use Rattle.slicing.specs.Good.{Good}
 use Rattle.slicing.proofs.Depths.{depth-few}
 use Rattle.facefile.specs.declared.walk.GaugeEntry.{GaugeEntry}
 use Rattle.facefile.specs.Format.{start, faceOf}
-use Rattle.entries.specs.inside.Sizes.{sizesIn}
+use Rattle.sizes.specs.inside.Sizes.{sizesIn}
 use Rattle.entries.specs.inside.Tracking.{flat}
 use Rattle.facefile.specs.inside.Walk.{firstEntry, stateAt, Walk, sizeBytesOf, GaugeAt, JoinAt}
 use Rattle.entries.proofs.Took.{state, entries-read}

@@ -14,7 +14,7 @@ use Rattle.facefile.specs.declared.walk.Entry.{Entry}
 use Rattle.facefile.specs.declared.walk.Entry.the-variants.{Gauge, Join}
 use Rattle.entries.specs.Entry.{State, entry, entries}
 use Rattle.facefile.specs.Format.{start, atEnd, faceOf, header}
-use Rattle.entries.specs.inside.Sizes.{sizesIn}
+use Rattle.sizes.specs.inside.Sizes.{sizesIn}
 use Rattle.facefile.specs.inside.Walk.{firstEntry, stateAt, Walk, sizeBytesOf, GaugeAt, JoinAt, EntryAt, Finds}
 use Rattle.entries.proofs.Took.{state, Took, took-gauge, took-join, entry-took, Reads, reads-none, reads-more}
 use Rattle.facefile.proofs.Taken.{header-taken, end-taken, end-read}

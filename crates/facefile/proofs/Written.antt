@@ -7,13 +7,14 @@ use lib.ListN.{length, drop, take-append-drop}
 use Rattle.checks.specs.Answer.{taken}
 use Rattle.slicing.specs.Item.{Item}
 use Rattle.slicing.specs.Tree.{Tree, gauge, beside, stacked}
-use Rattle.entries.specs.Entry.{State, field, sizesFrom}
+use Rattle.sizes.specs.GaugeSizes.{field, sizesFrom}
+use Rattle.entries.specs.Entry.{State}
 use Rattle.facefile.specs.Format.{start, faceOf}
 use Rattle.facefile.specs.Gauge.{sizeBytes}
 use Rattle.entries.specs.inside.Tracking.{flat}
 use Rattle.entries.specs.inside.Kinds.{Cut, cut-beside, cut-stacked}
 use Rattle.entries.proofs.Took.{state, Took, took-gauge, took-join, Reads, reads-none, reads-more}
-use Rattle.entries.proofs.GoodSizes.{sizes-good}
+use Rattle.sizes.proofs.GoodSizes.{sizes-good}
 use Rattle.facefile.proofs.SizeBytes.{Bytes, bytes-drop, sizes-bytes}
 use Rattle.facefile.proofs.Taken.{face-read}
 

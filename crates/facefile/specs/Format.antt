@@ -7,7 +7,8 @@ use lib.Dec.{leb, eqb}
 use Rattle.checks.specs.Check.{Length, Mark, Version, Entries, OnePart, AtEnd}
 use Rattle.checks.specs.Answer.{Answer, refused, taken, ask, next}
 use Rattle.slicing.specs.Tree.{Tree}
-use Rattle.entries.specs.Entry.{State, field, within, entries}
+use Rattle.sizes.specs.GaugeSizes.{field, within}
+use Rattle.entries.specs.Entry.{State, entries}
 
 -- First three `FCE`?
 abbrev pub marked : List ℕ → Bool

@@ -13,8 +13,8 @@ use crate::walk::FIRST_ENTRY;
 use entries::Cursor;
 use entries::Step;
 use entries::entry::read_entry;
-use entries::field::field;
-use entries::is_within;
+use sizes::field::field;
+use sizes::is_within;
 
 // The first seven bytes: the number of the first of checks 1 to 4 that fails, or 0.
 fn header_number(file: &[u8]) -> u32

@@ -12,7 +12,7 @@ use Rattle.checks.specs.Limits.{mostOpening}
 use Rattle.checks.specs.Answer.{taken, number}
 use Rattle.checks.proofs.Answers.{ask-taken, also-taken, also-first, also-later, RefusedBy, ask-refused, also-refused}
 use Rattle.slicing.specs.Layout.{outline}
-use Rattle.entries.specs.Entry.{within}
+use Rattle.sizes.specs.GaugeSizes.{within}
 use Rattle.lent.specs.Questions.{levelCount, levelsInRange, levelRange, levelsLent, openingGiven, buffersLent, outputLent}
 use Rattle.lent.proofs.LevelRange.{level-in}
 

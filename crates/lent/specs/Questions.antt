@@ -8,7 +8,7 @@ use Rattle.checks.specs.Check.{LevelCount, LevelRange, Opening, Buffers, Output
 use Rattle.checks.specs.Limits.{mostOpening}
 use Rattle.checks.specs.Answer.{Asked, taken, ask, also}
 use Rattle.slicing.specs.Layout.{Outline}
-use Rattle.entries.specs.Entry.{within}
+use Rattle.sizes.specs.GaugeSizes.{within}
 
 -- "As many levels as sizes? 14." Of n sizes.
 unfoldable pub levelCount : ℕ → ℕ → Asked

@@ -4,7 +4,7 @@ ghost use Rattle.checks.specs.Answer.{number};
 ghost use Rattle.slicing.specs.Layout.{outline};
 ghost use Rattle.lent.specs.Questions.{openingGiven, buffersLent, outputLent};
 use checks::limits::OPENING;
-use entries::is_within;
+use sizes::is_within;
 
 // Check 16, of an opening.
 pub fn opening_number(height: u32, width: u32) -> u32

@@ -12,9 +12,9 @@ use Rattle.arena.specs.Arena.{level, mWord, levelAt, mAt, forwardAt}
 use Rattle.arena.specs.inside.Chain.{put, All, Away, trues, Same}
 use Rattle.arena.specs.inside.Built.{Built}
 use Rattle.building.specs.inside.Building.{Cleared}
-use Rattle.entries.specs.declared.Size.{Size}
-use Rattle.entries.specs.inside.Sizes.{sizesIn, SizeIn}
-use Rattle.entries.proofs.SizesIn.{in-length}
+use Rattle.sizes.specs.declared.Size.{Size}
+use Rattle.sizes.specs.inside.Sizes.{sizesIn, SizeIn}
+use Rattle.sizes.proofs.SizesIn.{in-length}
 use Rattle.loading.specs.inside.Loading.{numbers, Placed, Loadable, Loaded}
 use Rattle.arena.proofs.PutLaws.{length-put, same-refl, same-trans}
 use Rattle.arena.proofs.Frames.{all-map, all-both, map-same}

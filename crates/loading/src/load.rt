@@ -10,7 +10,7 @@ use arena::words::P;
 use arena::words::store;
 use building::empty::clear_head;
 use building::prepend::prepend;
-use entries::size_in;
+use sizes::size_in;
 
 // A byte as a word.
 fn word_of(x: u8) -> u32

@@ -8,8 +8,8 @@ use lib.ListN.{length, getD, drop}
 use Rattle.slicing.specs.Item.{Item, size}
 use Rattle.slicing.specs.Tree.{gauge}
 use Rattle.slicing.specs.Recorded.{Recorded, numbered, partRecorded}
-use Rattle.entries.specs.inside.Sizes.{sizesIn}
-use Rattle.entries.proofs.SizesIn.{in-length}
+use Rattle.sizes.specs.inside.Sizes.{sizesIn}
+use Rattle.sizes.proofs.SizesIn.{in-length}
 use Rattle.arena.specs.Arena.{level, mWord, adjust}
 use Rattle.arena.specs.Lazy.{held}
 use Rattle.arena.specs.inside.Chain.{All}

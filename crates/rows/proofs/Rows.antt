@@ -13,7 +13,8 @@ use Rattle.slicing.specs.Merge.{merge, turn}
 use Rattle.slicing.specs.Shapes.{shapes}
 use Rattle.slicing.specs.Layout.{Outline, outline}
 use Rattle.slicing.specs.Fit.{smallest, noTaller, indexOf, place}
-use Rattle.entries.specs.Entry.{sizesAfter, sizesFrom, gaugeSizes, gaugeEntry, joinParts, joinEntry, kindEntry, entry, entries}
+use Rattle.sizes.specs.GaugeSizes.{sizesAfter, sizesFrom}
+use Rattle.entries.specs.Entry.{gaugeSizes, gaugeEntry, joinParts, joinEntry, kindEntry, entry, entries}
 use Rattle.facefile.specs.Format.{header, onePart, atEnd, faceOf}
 use Rattle.facefile.proofs.Example.{example}
 use Rattle.levels.specs.Levels.{timesFour, uncutLevel, largestPower, topLevel}

@@ -19,10 +19,10 @@ use Rattle.facefile.specs.declared.walk.Entry.{Entry as FileEntry}
 use Rattle.facefile.specs.declared.walk.Entry.the-variants.{Gauge, Join}
 use Rattle.facefile.specs.Format.{faceOf}
 use Rattle.entries.specs.inside.Kinds.{Cut, cut-beside, cut-stacked}
-use Rattle.entries.specs.inside.Sizes.{sizesIn, Sized}
+use Rattle.sizes.specs.inside.Sizes.{sizesIn, Sized}
 use Rattle.entries.specs.inside.Tracking.{flat}
 use Rattle.facefile.specs.inside.Walk.{firstEntry, Walk, sizeBytesOf, GaugeAt, JoinAt, Finds}
-use Rattle.entries.proofs.SizesIn.{in-length}
+use Rattle.sizes.proofs.SizesIn.{in-length}
 use Rattle.facefile.proofs.WalkSteps.{walk-start, walk-end, found-gauge, found-join}
 use Rattle.facefile.proofs.WalkStack.{walk-good, walk-gauges, walk-face, join-good, join-gauges}
 use Rattle.stored.specs.inside.Store.{ownShapes, Entry, Stored}

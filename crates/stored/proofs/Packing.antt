@@ -8,9 +8,9 @@ use native.Mathlib.Omega.{arith}
 use lib.ListN.{length, getD, set, take, length-set}
 use lib.Seq.{getD-set-other, length-take-le, take-suc, take-all}
 use Rattle.slicing.specs.Item.{Item, size}
-use Rattle.entries.specs.declared.Size.{Size}
-use Rattle.entries.specs.inside.Sizes.{sizesIn, SizeIn}
-use Rattle.entries.proofs.SizesIn.{in-length}
+use Rattle.sizes.specs.declared.Size.{Size}
+use Rattle.sizes.specs.inside.Sizes.{sizesIn, SizeIn}
+use Rattle.sizes.proofs.SizesIn.{in-length}
 use Rattle.packed.specs.inside.Packed.{pack, HasList}
 use Rattle.packed.proofs.StoredLists.{has-grown}
 use Rattle.stored.specs.inside.Filling.{entryAt, Added}

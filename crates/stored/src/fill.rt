@@ -5,7 +5,7 @@ ghost use lib.ListN.{length, getD};
 ghost use Rattle.checks.specs.Answer.{taken};
 ghost use Rattle.slicing.specs.Tree.{Tree};
 ghost use Rattle.facefile.specs.Format.{faceOf};
-ghost use Rattle.entries.specs.inside.Sizes.{sizesIn, Sized};
+ghost use Rattle.sizes.specs.inside.Sizes.{sizesIn, Sized};
 ghost use Rattle.packed.specs.inside.Packed.{HasList};
 ghost use Rattle.stored.specs.inside.Filling.{entryAt, stretchOf, Added, Fillable, Filled};
 ghost use Rattle.stored.specs.inside.Adding.{Room, JoinRoom, JoinAdded};
@@ -14,13 +14,13 @@ use crate::table::FROM;
 use crate::table::GAUGES;
 use crate::table::KIND;
 use crate::table::part_word;
-use entries::size_in;
 use facefile::walk::Entry;
 use facefile::walk::FIRST_ENTRY;
 use facefile::walk::entry_at;
 use packed::item::packed;
 use packed::merge::Stretch;
 use packed::merge::merge_lists;
+use sizes::size_in;
 
 // The words of the table, four a part. The lists follow it.
 const TABLE: usize = 508;

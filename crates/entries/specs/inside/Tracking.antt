@@ -1,20 +1,15 @@
 -- How the reader's cursor stands for a state of the format's definition. The contracts inside the reader cite it, and no public one does.
 use mathlib.Core.Path.{_≡_}
-use mathlib.Core.Bool.{Bool}
 use mathlib.Core.List.{List, [], _∷_, _++_}
 use Prim.Native.Nat.{ℕ, _+_, _*_, _≤_}
 use lib.ListN.{length, drop}
-use Rattle.checks.specs.Check.{Limits, Order, numberOf}
-use Rattle.checks.specs.Answer.{Answer, refused, taken, ask, number}
+use Rattle.checks.specs.Check.{numberOf}
+use Rattle.checks.specs.Answer.{Answer, refused, taken}
 use Rattle.slicing.specs.Tree.{Tree, gaugesOf, sizesOf}
 use Rattle.entries.specs.Entry.{State}
 use Rattle.entries.specs.declared.Cursor.{Cursor}
 use Rattle.entries.specs.declared.Step.{Step}
 use Rattle.entries.specs.declared.Step.the-variants.{Stop, Next}
-
--- The number of checks 8 and 9 on one size, by its two tests.
-abbrev pub sizeNumber : Bool → Bool → ℕ
-sizeNumber limits order = number (ask limits Limits (ask order Order (taken (tt {0}))))
 
 -- The lists of the parts of a stack, the oldest first.
 abbrev pub flat : {A : Type 0} → (Tree → List A) → List Tree → List A

@@ -8,7 +8,7 @@ use Rattle.slicing.specs.Tree.{Tree, gauge}
 use Rattle.entries.specs.Entry.{State, entries}
 use Rattle.facefile.specs.Format.{start, atEnd, faceOf}
 use Rattle.entries.specs.inside.Kinds.{Cut}
-use Rattle.entries.specs.inside.Sizes.{sizesIn, Sized}
+use Rattle.sizes.specs.inside.Sizes.{sizesIn, Sized}
 use Rattle.facefile.specs.declared.walk.GaugeEntry.{GaugeEntry}
 use Rattle.facefile.specs.declared.walk.Entry.{Entry}
 use Rattle.facefile.specs.declared.walk.Entry.the-variants.{Gauge, Join}

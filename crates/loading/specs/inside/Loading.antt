@@ -4,7 +4,7 @@ use mathlib.Core.List.{List, [], _∷_, map}
 use Prim.Native.Nat.{ℕ, zero, suc, _+_, _*_, _≤_, _<_}
 use lib.ListN.{length, getD}
 use Rattle.slicing.specs.Item.{Item}
-use Rattle.entries.specs.inside.Sizes.{sizesIn, Sized}
+use Rattle.sizes.specs.inside.Sizes.{sizesIn, Sized}
 use Rattle.arena.specs.Arena.{stride, level, mWord, levelAt, mAt, pAt, forwardAt}
 use Rattle.arena.specs.inside.Chain.{Has, put, Away, trues, Same}
 use Rattle.arena.specs.inside.Built.{Built}

@@ -1,0 +1,102 @@
+-- The sizes that a gauge's questions take: as many as its count says, within the limits and strictly ordered, and with the very bytes that were read.
+-- Each size passed check 8 and, after the first, check 9 against the size before it, so its order against all earlier ones follows by steps.
+use mathlib.Core.Path.{_≡_, refl, ap}
+use mathlib.Core.Bool.{true, and-eq-true-iff}
+use mathlib.Core.List.{List, [], _∷_, List·Memᴰ, List·Memᴰ·not-nil, List·Memᴰ·cases-cons}
+use mathlib.Core.Logic.{⊎-elim}
+use Prim.Native.Nat.{ℕ, zero, suc, _≤_, _<_}
+use native.Mathlib.Omega.{arith}
+use lib.ListN.{length, drop}
+use lib.Dec.{ltb}
+use borrow.Author.Tests.{ltb-true}
+use Rattle.checks.specs.Answer.{taken}
+use Rattle.checks.proofs.Answers.{same-taken, ask-taken, next-taken}
+use Rattle.slicing.specs.Item.{Item, height, width}
+use Rattle.slicing.specs.Good.{Limited, Ordered, GoodGauge}
+use Rattle.sizes.specs.GaugeSizes.{within, sizeAt, limited, ordered, sizesAfter, sizesFrom}
+use Rattle.sizes.proofs.SizeChecks.{within-true}
+
+limited-true : (z : Item) → limited z ≡ true → Limited z
+limited-true z e =
+    let both = and-eq-true-iff (within 1 1_000 (height z)) (within 1 1_000 (width z)) .0 e in
+    let h = within-true 1 1_000 (height z) (both .0) in
+    let w = within-true 1 1_000 (width z) (both .1) in
+    record { high = h .0; wide = w .0; low = h .1; narrow = w .1 }
+
+-- z comes after y in a strictly ordered list.
+pub record After (y z : Item) : Type 0 where
+  pub lower : z .m < y .m
+  pub wider : y .p < z .p
+
+ordered-true : (y z : Item) → ordered y z ≡ true → After y z
+ordered-true y z e =
+    let both = and-eq-true-iff (ltb (height z) (height y)) (ltb (width y) (width z)) .0 e in
+    record { lower = ltb-true (height z) (height y) (both .0); wider = ltb-true (width y) (width z) (both .1) }
+
+-- What is known of the sizes after y.
+record Rest (y : Item) (k : ℕ) (zs : List Item) : Type 0 where
+  count : length zs ≡ k
+  limits : (z : Item) → List·Memᴰ z zs → Limited z
+  after : (z : Item) → List·Memᴰ z zs → After y z
+  order : Ordered zs
+
+rest-none : (y : Item) → Rest y zero []
+rest-none y =
+    record {
+      count = refl;
+      limits = λ z i. absurd (List·Memᴰ·not-nil i);
+      after = λ z i. absurd (List·Memᴰ·not-nil i);
+      order = tt;
+    }
+
+limits-more : (x : Item) (zs : List Item) → Limited x → ((z : Item) → List·Memᴰ z zs → Limited z) → (z : Item) → List·Memᴰ z (x ∷ zs) → Limited z
+limits-more x zs h k z i = ⊎-elim (λ (e : z ≡ x). rw e h) (λ (j : List·Memᴰ z zs). k z j) (List·Memᴰ·cases-cons i)
+
+after-more : (y x : Item) (zs : List Item) → After y x → ((z : Item) → List·Memᴰ z zs → After x z) → (z : Item) → List·Memᴰ z (x ∷ zs) → After y z
+after-more y x zs h k z i =
+    ⊎-elim (λ (e : z ≡ x). rw e h)
+    (λ (j : List·Memᴰ z zs). let n = k z j in record { lower = omega arith; wider = omega arith })
+    (List·Memᴰ·cases-cons i)
+
+ordered-more : (x : Item) (zs : List Item) → ((z : Item) → List·Memᴰ z zs → After x z) → Ordered zs → Ordered (x ∷ zs)
+ordered-more x zs k o = (λ z i. (k z i .lower, k z i .wider), o)
+
+rest-more : (y x : Item) (k : ℕ) (zs : List Item) → Limited x → After y x → Rest x k zs → Rest y (suc k) (x ∷ zs)
+rest-more y x k zs l a r =
+    record {
+      count = ap suc (r .count);
+      limits = limits-more x zs l (r .limits);
+      after = after-more y x zs a (r .after);
+      order = ordered-more x zs (r .after) (r .order);
+    }
+
+after-taken : (y : Item) (k : ℕ) (bytes : List ℕ) (zs : List Item) → sizesAfter y k bytes ≡ taken zs → Rest y k zs
+unfolding sizesAfter
+after-taken y zero bytes zs e = rw (← same-taken [] zs e) (rest-none y)
+after-taken y (suc k) bytes zs e =
+    let limits = ask-taken (limited (sizeAt bytes)) _ _ zs e in
+    let order = ask-taken (ordered y (sizeAt bytes)) _ _ zs (limits .1) in
+    let more = next-taken (sizesAfter (sizeAt bytes) k (drop 4 bytes)) (λ xs. taken (sizeAt bytes ∷ xs)) zs (order .1) in
+    rw (← same-taken (sizeAt bytes ∷ more .0) zs (more .2))
+    (rest-more y (sizeAt bytes) k (more .0) (limited-true (sizeAt bytes) (limits .0))
+    (ordered-true y (sizeAt bytes) (order .0)) (after-taken (sizeAt bytes) k (drop 4 bytes) (more .0) (more .1)))
+
+good-more : (x : Item) (k : ℕ) (zs : List Item) → suc k ≤ 8 → Limited x → Rest x k zs → GoodGauge (x ∷ zs)
+good-more x k zs few l r =
+    record {
+      some = omega arith;
+      few = let n = r .count in omega arith;
+      limited = limits-more x zs l (r .limits);
+      ordered = ordered-more x zs (r .after) (r .order);
+    }
+
+-- A gauge that is taken is good, and has as many sizes as its count says.
+pub sizes-good : (count : ℕ) (bytes : List ℕ) (zs : List Item) → 1 ≤ count → count ≤ 8 → sizesFrom count bytes ≡ taken zs → GoodGauge zs × (length zs ≡ count)
+unfolding sizesFrom
+sizes-good zero bytes zs some few e = absurd (omega arith)
+sizes-good (suc k) bytes zs some few e =
+    let limits = ask-taken (limited (sizeAt bytes)) _ _ zs e in
+    let more = next-taken (sizesAfter (sizeAt bytes) k (drop 4 bytes)) (λ xs. taken (sizeAt bytes ∷ xs)) zs (limits .1) in
+    let rest = after-taken (sizeAt bytes) k (drop 4 bytes) (more .0) (more .1) in
+    rw (← same-taken (sizeAt bytes ∷ more .0) zs (more .2))
+    (good-more (sizeAt bytes) k (more .0) few (limited-true (sizeAt bytes) (limits .0)) rest, ap suc (rest .count))

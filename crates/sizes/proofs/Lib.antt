@@ -1,0 +1,3 @@
+pub mod SizeChecks
+pub mod SizesIn
+pub mod GoodSizes

@@ -1,0 +1,152 @@
+-- What the loop over a gauge's sizes keeps: the sizes from the present one on give the number that all of them give.
+-- The number of a chain of questions is that of what follows once a question is answered "yes", and does not hang on what is taken.
+use mathlib.Core.Path.{_≡_, refl, sym, ap, subst, _∙_}
+use mathlib.Core.Bool.{Bool, true, false, not, and-eq-true-iff}
+use mathlib.Core.List.{List, _∷_}
+use Prim.Native.Nat.{ℕ, zero, suc, _+_, _-_, _*_, _≤_, _<_}
+use native.Mathlib.Omega.{arith}
+use lib.ListN.{getD, drop}
+use lib.Dec.{leb, ltb}
+use borrow.Author.Tests.{le-leb, lt-leb, lt-ltb, le-ltb, leb-true}
+use lib.Seq.{drop-drop, getD-drop}
+use Rattle.checks.specs.Check.{Limits, Order}
+use Rattle.checks.specs.Answer.{Answer, refused, taken, ask, next, number}
+use Rattle.slicing.specs.Item.{Item, size}
+use Rattle.sizes.specs.inside.Sizes.{sizeNumber}
+use Rattle.sizes.specs.GaugeSizes.{field, within, limited, ordered, sizeAt, sizesAfter, sizesFrom}
+
+-- Answers of `a && b`: where a holds it is b, and where it does not it is a.
+pub within-yes : (low high x : ℕ) → low ≤ x → leb x high ≡ within low high x
+within-yes low high x h = simp (le-leb low x h)
+
+pub within-no : (low high x : ℕ) → x < low → leb low x ≡ within low high x
+within-no low high x h = simp (lt-leb low x h)
+
+-- What a "yes" to it says.
+pub within-true : (low high x : ℕ) → within low high x ≡ true → (low ≤ x) × (x ≤ high)
+within-true low high x e =
+    let both = and-eq-true-iff (leb low x) (leb x high) .0 e in (leb-true low x (both .0), leb-true x high (both .1))
+
+pub ordered-yes : (h w k v : ℕ) → k < h → ltb w v ≡ ordered (size h w) (size k v)
+ordered-yes h w k v p = simp (lt-ltb k h p)
+
+pub ordered-no : (h w k v : ℕ) → h ≤ k → ltb k h ≡ ordered (size h w) (size k v)
+ordered-no h w k v p = simp (le-ltb k h p)
+
+pub limited-yes : (h w : ℕ) (a b : Bool) → a ≡ within 1 1_000 h → a ≡ true → b ≡ within 1 1_000 w → b ≡ limited (size h w)
+limited-yes h w a b p q r = rw (← p, q, r)
+
+pub limited-no : (h w : ℕ) (a : Bool) → a ≡ within 1 1_000 h → a ≡ false → a ≡ limited (size h w)
+limited-no h w a p q = rw (← p, q)
+
+field-drop : (s : List ℕ) (at k : ℕ) → field (drop at s) k ≡ field s (at + k)
+field-drop s at k = rw (getD-drop at s k 0, getD-drop at s (k + 1) 0) (omega-free s at k)
+  where
+    omega-free : (s : List ℕ) (at k : ℕ) → 256 * getD s (at + k) 0 + getD s (at + (k + 1)) 0 ≡ 256 * getD s (at + k) 0 + getD s (at + k + 1) 0
+    omega-free s at k = let e : at + (k + 1) ≡ at + k + 1 = omega arith in rw e
+
+pub size-at : (s : List ℕ) (at h w : ℕ) → h ≡ field s at → w ≡ field s (at + 2) → size h w ≡ sizeAt (drop at s)
+size-at s at h w e f = let z : at + 0 ≡ at = omega arith in rw (e, f, field-drop s at 0, field-drop s at 2, z)
+
+size-below : (s : List ℕ) (at k : ℕ) → drop 4 (drop (at + 4 * k) s) ≡ drop (at + 4 * (k + 1)) s
+size-below s at k = let e : at + 4 * k + 4 ≡ at + 4 * (k + 1) = omega arith in rw (drop-drop, e)
+
+number-next : {A B : Type 0} (a : Answer A) (f : A → B) → number (next a (λ x. taken (f x))) ≡ number a
+number-next (refused c) f = refl
+number-next (taken x) f = refl
+
+-- The number of checks 8 and 9 on all sizes at `at` is that of the `count - i` sizes from size i on, after the size before.
+pub record Checked (s : List ℕ) (at count : ℕ) (y : Item) (i : ℕ) : Type 0 where
+  pub some : 1 ≤ i
+  pub inside : i ≤ count
+  pub same : number (sizesAfter y (count - i) (drop (at + 4 * i) s)) ≡ number (sizesFrom count (drop at s))
+
+-- One size's two questions, answered by l and o, before what follows them: they stop with n, or pass.
+module _ {A : Type 0} where
+  stop : (l o : Bool) (a : Answer A) (n : ℕ) → n ≡ sizeNumber l o → (n ≡ 0 → ⊥) → n ≡ number (ask l Limits (ask o Order a))
+  stop true true a n e h = absurd (h e)
+  stop true false a n e h = e
+  stop false o a n e h = e
+
+  pass : (l o : Bool) (a : Answer A) → 0 ≡ sizeNumber l o → number (ask l Limits (ask o Order a)) ≡ number a
+  pass true true a e = refl
+  pass true false a e = absurd (omega arith)
+  pass false o a e = absurd (omega arith)
+
+-- The code's two answers on one size.
+pub size-limits : (l o : Bool) → not l ≡ true → 8 ≡ sizeNumber l o
+size-limits true o h = absurd (let z : _≡_ {A = ℕ} 0 1 = cc in omega arith)
+size-limits false o h = refl
+
+pub size-order : (l o : Bool) → not l ≡ false → not o ≡ true → 9 ≡ sizeNumber l o
+size-order true true h k = absurd (let z : _≡_ {A = ℕ} 0 1 = cc in omega arith)
+size-order true false h k = refl
+size-order false o h k = absurd (let z : _≡_ {A = ℕ} 0 1 = cc in omega arith)
+
+pub size-passes : (l o : Bool) → not l ≡ false → not o ≡ false → 0 ≡ sizeNumber l o
+size-passes true true h k = refl
+size-passes true false h k = absurd (let z : _≡_ {A = ℕ} 0 1 = cc in omega arith)
+size-passes false o h k = absurd (let z : _≡_ {A = ℕ} 0 1 = cc in omega arith)
+
+-- The first size z, whose test is l.
+pub first-stops : (s : List ℕ) (at count : ℕ) (z : Item) (l : Bool) (n : ℕ) → 1 ≤ count → z ≡ sizeAt (drop at s) → l ≡ limited z → n ≡ sizeNumber l true → (n ≡ 0 → ⊥) → n ≡ number (sizesFrom count (drop at s))
+unfolding sizesFrom
+first-stops s at zero z l n some here limits e h = absurd (omega arith)
+first-stops s at (suc k) z l n some here limits e h =
+    let same : l ≡ limited (sizeAt (drop at s)) = limits ∙ ap limited here in
+    stop (limited (sizeAt (drop at s))) true _ n (e ∙ ap (λ (b : Bool). sizeNumber b true) same) h
+
+pub first-checked : (s : List ℕ) (at count : ℕ) (z : Item) (l : Bool) (n : ℕ) → 1 ≤ count → z ≡ sizeAt (drop at s) → l ≡ limited z → n ≡ sizeNumber l true → n ≡ 0 → Checked s at count z 1
+unfolding sizesFrom
+first-checked s at zero z l n some here limits e h = absurd (omega arith)
+first-checked s at (suc k) z l n some here limits e h =
+    let same : l ≡ limited (sizeAt (drop at s)) = limits ∙ ap limited here in
+    let less : suc k - 1 ≡ k = omega arith in
+    let next-place : at + 4 * 1 ≡ at + 4 = omega arith in
+    let rest = sizesAfter (sizeAt (drop at s)) k (drop 4 (drop at s)) in
+    record {
+      some = omega arith;
+      inside = omega arith;
+      same =
+          rw (less, next-place, here, ← drop-drop 4 at s)
+          (sym (number-next rest (λ zs. sizeAt (drop at s) ∷ zs))
+          ∙ sym (pass (limited (sizeAt (drop at s))) true _ (sym h ∙ e ∙ ap (λ (b : Bool). sizeNumber b true) same)));
+    }
+
+-- A later size z, after the size y, and its tests l and o.
+module _ (s : List ℕ) (at count i : ℕ) (y z : Item) (l o : Bool) (n : ℕ) (known : Checked s at count y i) (more : i < count) (here : z ≡ sizeAt (drop (at + 4 * i) s)) (limits : l ≡ limited z) (order : o ≡ ordered y z) (e : n ≡ sizeNumber l o) where
+  abbrev bytes : List ℕ
+  bytes = drop (at + 4 * i) s
+
+  tests : n ≡ sizeNumber (limited (sizeAt bytes)) (ordered y (sizeAt bytes))
+  tests =
+      e ∙ ap (λ (b : Bool). sizeNumber b o) (limits ∙ ap limited here)
+      ∙ ap (λ (b : Bool). sizeNumber (limited (sizeAt bytes)) b) (order ∙ ap (ordered y) here)
+
+  same : number (sizesAfter y (suc (count - (i + 1))) bytes) ≡ number (sizesFrom count (drop at s))
+  same =
+      let steps : count - i ≡ suc (count - (i + 1)) = omega arith in
+      subst (λ (k : ℕ). number (sizesAfter y k bytes) ≡ number (sizesFrom count (drop at s))) steps (known .same)
+
+  pub later-stops : (n ≡ 0 → ⊥) → n ≡ number (sizesFrom count (drop at s))
+  unfolding sizesAfter
+  later-stops h = stop (limited (sizeAt bytes)) (ordered y (sizeAt bytes)) _ n tests h ∙ same
+
+  pub later-checked : n ≡ 0 → Checked s at count z (i + 1)
+  unfolding sizesAfter
+  later-checked h =
+      record {
+        some = omega arith;
+        inside = omega arith;
+        same =
+            rw (here, ← size-below s at i)
+            (sym (number-next (sizesAfter (sizeAt bytes) (count - (i + 1)) (drop 4 bytes)) (λ zs. sizeAt bytes ∷ zs))
+            ∙ sym (pass (limited (sizeAt bytes)) (ordered y (sizeAt bytes)) _ (sym h ∙ tests))
+            ∙ same);
+      }
+
+pub all-checked : (s : List ℕ) (at count : ℕ) (y : Item) (i : ℕ) → Checked s at count y i → count ≤ i → 0 ≡ number (sizesFrom count (drop at s))
+unfolding sizesAfter
+all-checked s at count y i known h =
+    let none : count - i ≡ 0 = omega arith in
+    subst (λ (n : ℕ). number (sizesAfter y n (drop (at + 4 * i) s)) ≡ number (sizesFrom count (drop at s))) none (known .same)

@@ -1,0 +1,59 @@
+-- The sizes that the reader took are those that stand in the bytes, and these hang on their own bytes alone.
+-- The reader takes a size only as it stands at its place, four bytes after the size before it.
+use mathlib.Core.Path.{_≡_, refl, sym, ap, ap₂, _∙_}
+use mathlib.Core.List.{List, [], _∷_}
+use Prim.Native.Nat.{ℕ, zero, suc, _+_, _*_, _<_}
+use native.Mathlib.Omega.{arith}
+use lib.ListN.{length, getD, drop}
+use lib.Seq.{drop-drop, getD-drop}
+use Rattle.checks.specs.Check.{Limits, Order}
+use Rattle.checks.specs.Answer.{taken}
+use Rattle.checks.proofs.Answers.{same-taken, ask-taken, next-taken}
+use Rattle.slicing.specs.Item.{Item, size}
+use Rattle.sizes.specs.GaugeSizes.{sizeAt, limited, ordered, sizesAfter, sizesFrom}
+use Rattle.sizes.specs.inside.Sizes.{sizesIn, SizeIn}
+use Rattle.sizes.specs.declared.Size.{Size}
+
+after-in : (y : Item) (k : ℕ) (bytes : List ℕ) (z : List Item) → sizesAfter y k bytes ≡ taken z → z ≡ sizesIn k bytes
+unfolding sizesAfter sizesIn
+after-in y zero bytes z e = sym (same-taken [] z e)
+after-in y (suc k) bytes z e =
+    let limits = ask-taken (limited (sizeAt bytes)) Limits _ z e in
+    let order = ask-taken (ordered y (sizeAt bytes)) Order _ z (limits .1) in
+    let rest = next-taken (sizesAfter (sizeAt bytes) k (drop 4 bytes)) (λ zs. taken (sizeAt bytes ∷ zs)) z (order .1) in
+    sym (same-taken (sizeAt bytes ∷ rest .0) z (rest .2))
+    ∙ ap (λ (l : List Item). sizeAt bytes ∷ l) (after-in (sizeAt bytes) k (drop 4 bytes) (rest .0) (rest .1))
+
+pub from-in : (k : ℕ) (bytes : List ℕ) (z : List Item) → sizesFrom k bytes ≡ taken z → z ≡ sizesIn k bytes
+unfolding sizesFrom sizesIn
+from-in zero bytes z e = sym (same-taken [] z e)
+from-in (suc k) bytes z e =
+    let limits = ask-taken (limited (sizeAt bytes)) Limits _ z e in
+    let rest = next-taken (sizesAfter (sizeAt bytes) k (drop 4 bytes)) (λ zs. taken (sizeAt bytes ∷ zs)) z (limits .1) in
+    sym (same-taken (sizeAt bytes ∷ rest .0) z (rest .2))
+    ∙ ap (λ (l : List Item). sizeAt bytes ∷ l) (after-in (sizeAt bytes) k (drop 4 bytes) (rest .0) (rest .1))
+
+pub in-same : (k : ℕ) (x y : List ℕ) → ((i : ℕ) → i < 4 * k → getD x i 0 ≡ getD y i 0) → sizesIn k x ≡ sizesIn k y
+unfolding sizesIn
+in-same zero x y same = refl
+in-same (suc k) x y same =
+    ap₂ _∷_
+    (ap₂ size (ap₂ (λ (u v : ℕ). 256 * u + v) (same 0 (omega arith)) (same 1 (omega arith))) (ap₂ (λ (u v : ℕ). 256 * u + v) (same 2 (omega arith)) (same 3 (omega arith))))
+    (in-same k (drop 4 x) (drop 4 y) (λ i less. getD-drop 4 x i 0 ∙ same (4 + i) (omega arith) ∙ sym (getD-drop 4 y i 0)))
+
+pub in-length : (k : ℕ) (x : List ℕ) → length (sizesIn k x) ≡ k
+unfolding sizesIn
+in-length zero x = refl
+in-length (suc k) x = ap suc (in-length k (drop 4 x))
+
+in-at : (n k : ℕ) (x : List ℕ) → k < n → sizeAt (drop (4 * k) x) ≡ getD (sizesIn n x) k (size 0 0)
+unfolding sizesIn
+in-at zero k x h = absurd (omega arith)
+in-at (suc n) zero x h = refl
+in-at (suc n) (suc k) x h =
+    let place : 4 * suc k ≡ 4 + 4 * k = omega arith in
+    ap (λ (i : ℕ). sizeAt (drop i x)) place ∙ sym (ap sizeAt (drop-drop (4 * k) 4 x)) ∙ in-at n k (drop 4 x) (omega arith)
+
+-- The size that is read at the place of size k.
+pub size-in : (x : List ℕ) (k : ℕ) (z : Size) → size (z .height) (z .width) ≡ sizeAt (drop (4 * k) x) → z .height < 65_536 → z .width < 65_536 → SizeIn x k z
+size-in x k z e h w = record { same = λ n less. e ∙ in-at n k x less; height-fits = h; width-fits = w }

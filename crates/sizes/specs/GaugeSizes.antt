@@ -1,0 +1,43 @@
+-- Document 01, "The face file" and "The checks, as questions": the sizes of a gauge, taken in turn, or the first of checks 8 and 9 that they fail.
+use mathlib.Core.Bool.{Bool, _&&_}
+use mathlib.Core.List.{List, [], _∷_}
+use Prim.Native.Nat.{ℕ, zero, suc, _+_, _*_}
+use lib.ListN.{getD, drop}
+use lib.Dec.{leb, ltb}
+use Rattle.checks.specs.Check.{Limits, Order}
+use Rattle.checks.specs.Answer.{Answer, taken, ask, next}
+use Rattle.slicing.specs.Item.{Item, size, height, width}
+
+-- 16-bit fields have the high byte first: the field at a place of the bytes.
+abbrev pub field : List ℕ → ℕ → ℕ
+field s at = 256 * getD s at 0 + getD s (at + 1) 0
+
+abbrev pub within : ℕ → ℕ → ℕ → Bool
+within low high x = leb low x && leb x high
+
+-- For each size a 16-bit height and a 16-bit width.
+abbrev pub sizeAt : List ℕ → Item
+sizeAt bytes = size (field bytes 0) (field bytes 2)
+
+-- Height and width both 1 to 1,000?
+abbrev pub limited : Item → Bool
+limited z = within 1 1_000 (height z) && within 1 1_000 (width z)
+
+-- Height less and width more than the size before?
+abbrev pub ordered : Item → Item → Bool
+ordered y z = ltb (height z) (height y) && ltb (width y) (width z)
+
+-- For each size in turn, where y is the size before: 8, then 9.
+unfoldable pub sizesAfter : Item → ℕ → List ℕ → Answer (List Item)
+sizesAfter y zero bytes = taken []
+sizesAfter y (suc k) bytes =
+    ask (limited (sizeAt bytes)) Limits
+    (ask (ordered y (sizeAt bytes)) Order
+    (next (sizesAfter (sizeAt bytes) k (drop 4 bytes)) (λ zs. taken (sizeAt bytes ∷ zs))))
+
+-- The first size has none before it.
+unfoldable pub sizesFrom : ℕ → List ℕ → Answer (List Item)
+sizesFrom zero bytes = taken []
+sizesFrom (suc k) bytes =
+    ask (limited (sizeAt bytes)) Limits
+    (next (sizesAfter (sizeAt bytes) k (drop 4 bytes)) (λ zs. taken (sizeAt bytes ∷ zs)))

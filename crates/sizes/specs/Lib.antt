@@ -1,0 +1,2 @@
+pub mod GaugeSizes
+pub mod inside
