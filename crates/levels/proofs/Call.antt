@@ -18,8 +18,8 @@ use Rattle.facefile.proofs.Taken.{face-taken}
 use Rattle.lent.specs.Questions.{levelCount}
 use Rattle.lent.proofs.Asking.{count-taken}
 use Rattle.lent.proofs.Calling.{counts, refused-by-file, refused-by-asked, asked-taken, taken-by-all}
-use Rattle.levels.specs.declared.depths.Depths.{Depths}
-use Rattle.levels.specs.inside.Deep.{Deep}
+use Rattle.depths.specs.declared.Depths.{Depths}
+use Rattle.depths.specs.inside.Deep.{Deep}
 use Rattle.levels.specs.Levels.{topLevel, levelsFrom, levelsOf, levelsCall, levelsFilled}
 use Rattle.levels.specs.inside.Taken.{Fillable, OwnLevels}
 

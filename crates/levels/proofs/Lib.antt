@@ -2,6 +2,5 @@ pub mod Sequence
 pub mod UncutTable
 pub mod TopLevel
 pub mod Filling
-pub mod DepthStack
 pub mod Call
 pub mod Range

@@ -1,2 +1,1 @@
-pub mod Deep
 pub mod Taken

@@ -1,5 +1,4 @@
 // The levels of a face's sizes: document 01's rule, its table, and the call that fills a levels buffer.
-mod depths;
 mod table;
 
 use depths::Depths;

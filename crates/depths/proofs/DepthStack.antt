@@ -19,7 +19,7 @@ use Rattle.facefile.specs.inside.Walk.{firstEntry, sizeBytesOf, GaugeAt, JoinAt
 use Rattle.facefile.proofs.PartArray.{Column, column-start, column-push, column-older, column-newer, column-join}
 use Rattle.facefile.proofs.WalkSteps.{walk-end, found-gauge, found-join}
 use Rattle.facefile.proofs.WalkStack.{walk-face, join-gauges, Counted, counted-start, counted-room, counted-gauge, counted-two, counted-join}
-use Rattle.levels.specs.inside.Deep.{Deep, Room, joinedAt}
+use Rattle.depths.specs.inside.Deep.{Deep, Room, joinedAt}
 
 -- f of a join is one more than g of f of its parts.
 abbrev Joins : (Tree → ℕ) → (ℕ → ℕ → ℕ) → Type 0

@@ -5,7 +5,7 @@ ghost use lib.ListN.{length, set};
 ghost use Rattle.checks.specs.Answer.{taken};
 ghost use Rattle.slicing.specs.Tree.{Tree};
 ghost use Rattle.facefile.specs.Format.{faceOf};
-ghost use Rattle.levels.specs.inside.Deep.{Deep, Room, joinedAt};
+ghost use Rattle.depths.specs.inside.Deep.{Deep, Room, joinedAt};
 use facefile::walk::Entry;
 use facefile::walk::FIRST_ENTRY;
 use facefile::walk::entry_at;

@@ -1,4 +1,4 @@
--- What the walk for the depths finds. The contract inside the levels call cites it, and no public one does.
+-- What the walk for the depths finds. No public contract cites it.
 use mathlib.Core.Path.{_≡_}
 use mathlib.Core.List.{List}
 use Prim.Native.Nat.{ℕ, _+_, _<_}
@@ -6,7 +6,7 @@ use lib.ListN.{length, getD, set}
 use Rattle.checks.specs.Answer.{taken}
 use Rattle.slicing.specs.Tree.{Tree, leastDepth, mostDepth}
 use Rattle.facefile.specs.Format.{faceOf}
-use Rattle.levels.specs.declared.depths.Depths.{Depths}
+use Rattle.depths.specs.declared.Depths.{Depths}
 
 -- D and E of the tree that the file means.
 unfoldable pub Deep : List ℕ → Depths → Type 0

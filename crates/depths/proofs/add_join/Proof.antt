@@ -1,8 +1,8 @@
--- `levels::depths::add_join` meets its contract.
+-- `depths::add_join` meets its contract.
 -- Each array is stored to once, with what its comparison gave.
 use borrow.Author.Needs.{needs}
-use Rattle.levels.proofs.depths.add_join.Statement.{statement}
-use Rattle.levels.proofs.depths.add_join.Tie as tie
+use Rattle.depths.proofs.add_join.Statement.{statement}
+use Rattle.depths.proofs.add_join.Tie as tie
 
 add-newer : tie.Need-add-newer
 add-newer c = search needs

@@ -1,12 +1,12 @@
--- `levels::depths::depths_of` meets its contract.
+-- `depths::depths_of` meets its contract.
 -- The loop keeps `Measured`, that the arrays hold the depths of the parts on the stack; the measure is the bytes left.
 use borrow.Author.Needs.{needs}
 use Prim.Native.Nat.{_-_}
 use lib.ListN.{length}
 use Rattle.facefile.proofs.WalkSteps.{gauge-less, join-less}
-use Rattle.levels.proofs.DepthStack.{Measured, measured-start, least-gauge, most-gauge, measured-gauge, join-parts, join-some, least-join, most-join, measured-join, measured-end}
-use Rattle.levels.proofs.depths.depths_of.Statement.{statement}
-use Rattle.levels.proofs.depths.depths_of.Tie as tie
+use Rattle.depths.proofs.DepthStack.{Measured, measured-start, least-gauge, most-gauge, measured-gauge, join-parts, join-some, least-join, most-join, measured-join, measured-end}
+use Rattle.depths.proofs.depths_of.Statement.{statement}
+use Rattle.depths.proofs.depths_of.Tie as tie
 
 abbrev Inv-loop : tie.InvT-loop
 Inv-loop file least₀ most₀ at₀ parts₀ least most at parts = Measured file least most at parts
