@@ -1,10 +1,9 @@
 -- Every legal layout of a part is at least as high and as wide as some item of the part's shape list, counted from any corner that its lower and left edges keep to.
 -- Going down the tree, the line of a join keeps the second part beyond the first, so the layout has room for an item of each list one after the other, and the merge meets every such pair.
-use mathlib.Core.Path.{refl}
-use mathlib.Core.List.{List, [], _∷_, List·Memᴰ, List·Memᴰ·head, List·Memᴰ·tail}
-use Prim.Native.Nat.{ℕ, zero, suc, _+_, _≤_, _<_}
+use mathlib.Core.List.{List, List·Memᴰ}
+use Prim.Native.Nat.{ℕ, zero, _+_, _≤_}
 use native.Mathlib.Omega.{arith}
-use lib.ListN.{length, getD}
+use lib.ListN.{getD}
 use Rattle.slicing.specs.Item.{Item, size}
 use Rattle.slicing.specs.Tree.{Tree, gauge, beside, stacked}
 use Rattle.slicing.specs.Good.{Good}
@@ -13,6 +12,8 @@ use Rattle.slicing.specs.Shapes.{shapes}
 use Rattle.slicing.specs.Layout.{Layout, rightmost, topmost, LeftsFrom, BottomsFrom, Legal}
 use Rattle.slicing.proofs.MergeLaws.{maxplus}
 use Rattle.slicing.proofs.TurnLaws.{turn-in, turn-ordered}
+use Rattle.slicing.proofs.ByPlace.{at-index}
+use Rattle.slicing.proofs.GaugeUseful.{gauge-useful}
 use Rattle.slicing.proofs.ShapeLaws.{shapes-ordered}
 
 -- The shape list of the part has an item that fits between the corner x, y and the furthest edges of the layout.
@@ -22,20 +23,12 @@ pub record HasRoom (gap : ℕ) (t : Tree) (l : Layout t) (x y : ℕ) : Type 0 wh
   pub no-taller : y + item .m ≤ topmost t l
   pub no-wider : x + item .p ≤ rightmost t l
 
-pub at-index : (s : List Item) (i : ℕ) (d : Item) → i < length s → List·Memᴰ (getD s i d) s
-at-index [] i d h = absurd (omega arith)
-at-index (z ∷ s) zero d h = List·Memᴰ·head refl
-at-index (z ∷ s) (suc i) d h = List·Memᴰ·tail (at-index s i d (omega arith))
-
 room-gauge : (gap : ℕ) (s : List Item) (l : Layout (gauge s)) (x y : ℕ) → Legal gap (gauge s) l → LeftsFrom (gauge s) l x → BottomsFrom (gauge s) l y → HasRoom gap (gauge s) l x y
 unfolding shapes
 room-gauge gap s l x y legal left low =
-    record {
-      item = getD s (l .index) (size 0 0);
-      item-in = at-index s (l .index) (size 0 0) legal;
-      no-taller = omega arith;
-      no-wider = omega arith;
-    }
+    let z = getD s (l .index) (size 0 0) in
+    let met = gauge-useful s .sizes .size-met z (at-index s (l .index) (size 0 0) legal) in
+    record { item = met .item; item-in = met .item-in; no-taller = omega arith; no-wider = omega arith }
 
 room-beside : (gap : ℕ) (a b : Tree) (l : Layout (beside a b)) (x y v : ℕ) → Good a → Good b → rightmost a (l .0) ≤ v → HasRoom gap a (l .0) x y → HasRoom gap b (l .1) (v + gap) y → HasRoom gap (beside a b) l x y
 unfolding shapes

@@ -3,8 +3,13 @@ pub mod Depths
 pub mod Parts
 pub mod MergeLaws
 pub mod TurnLaws
-pub mod ShapeLaws
 pub mod Unique
+pub mod ByPlace
+pub mod UsefulLaws
+pub mod HeightOrder
+pub mod GaugeUseful
+pub mod Indexes
+pub mod ShapeLaws
 pub mod Demand2
 pub mod RecordedLaws
 pub mod Batch
@@ -14,4 +19,5 @@ pub mod Placing
 pub mod Picking
 pub mod Demand3
 pub mod Stored
+pub mod Numbers
 pub mod PartLists

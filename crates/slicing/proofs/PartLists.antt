@@ -4,7 +4,7 @@ use mathlib.Core.Path.{_≡_, refl, sym, ap, subst, _∙_}
 use mathlib.Core.Bool.{Bool, true, false}
 use mathlib.Core.List.{List, [], _∷_, map, reverse, reverseAux, reverse-reverse, List·Memᴰ, List·Memᴰ·head, List·Memᴰ·tail, List·Memᴰ·not-nil, List·Memᴰ·cases-cons, Memᴰ·map}
 use mathlib.Core.Logic.{_⊎_, inl, inr, ⊎-elim}
-use Prim.Native.Nat.{ℕ, suc, _+_, _*_, _≤_, _<_}
+use Prim.Native.Nat.{ℕ, _+_, _*_, _≤_, _<_}
 use native.Mathlib.Omega.{arith}
 use lib.ListN.{length, length-map}
 use lib.Dec.{ltb, eqb}
@@ -14,11 +14,12 @@ use Rattle.slicing.specs.Good.{Ordered, Good}
 use Rattle.slicing.specs.Merge.{sum}
 use Rattle.slicing.specs.Shapes.{shapes}
 use Rattle.slicing.specs.Choice.{Choice, extent}
-use Rattle.slicing.specs.Recorded.{Recorded, items, numbered, mergeRecorded, swapRecorded, turnRecorded, shapesRecorded, partRecorded}
+use Rattle.slicing.specs.Recorded.{Recorded, items, gaugeRecorded, mergeRecorded, swapRecorded, turnRecorded, shapesRecorded, partRecorded}
 use Rattle.slicing.proofs.Counts.{gauges-joined, sizes-joined}
 use Rattle.slicing.proofs.TurnLaws.{turn-ordered, turn-length}
 use Rattle.slicing.proofs.ShapeLaws.{shapes-ordered, shapes-short, shapes-chosen}
 use Rattle.slicing.proofs.RecordedLaws.{items-turn, items-shapes}
+use Rattle.slicing.proofs.Numbers.{gauge-numbers}
 
 swapped-back : (l k : List Recorded) → map swapRecorded (reverseAux (map swapRecorded l) k) ≡ reverseAux l (map swapRecorded k)
 swapped-back [] k = refl
@@ -160,11 +161,8 @@ among-more : (r n : ℕ) (y : Recorded) (l : List Recorded) → (r ≤ y .number
 among-more r n y l h k x i =
     ⊎-elim (λ (e : x ≡ y). subst (λ (z : Recorded). (r ≤ z .number) × (z .number < r + n)) (sym e) h) (k x) (List·Memᴰ·cases-cons i)
 
-among-numbered : (r : ℕ) (s : List Item) → Among r (length s) (numbered r s)
-among-numbered r [] = among-none r 0
-among-numbered r (z ∷ s) =
-    among-more r (suc (length s)) (record { number = r; item = z }) (numbered (suc r) s) (omega arith, omega arith)
-    (λ x i. let h = among-numbered (suc r) s x i in (omega arith, omega arith))
+among-gauge : (r : ℕ) (s : List Item) → Among r (length s) (gaugeRecorded r s)
+among-gauge r s x i = let h = gauge-numbers r s x i in (h .from-first, h .to-last)
 
 among-turned : (r n : ℕ) (l : List Recorded) → Among r n l → Among r n (turnRecorded l)
 among-turned r n l h x i = h (swapRecorded x) (turn-out-recorded x l i)
@@ -206,7 +204,7 @@ among-joined gap r a b l k h j =
 
 pub recorded-numbers : (gap r : ℕ) (t : Tree) (x : Recorded) → List·Memᴰ x (shapesRecorded gap r t) → (r ≤ x .number) × (x .number < r + sizeCount t)
 unfolding shapesRecorded
-recorded-numbers gap r (gauge s) = among-numbered r s
+recorded-numbers gap r (gauge s) = among-gauge r s
 recorded-numbers gap r (beside a b) =
     among-joined gap r a b (shapesRecorded gap r a) (shapesRecorded gap (r + sizeCount a) b) (recorded-numbers gap r a)
     (recorded-numbers gap (r + sizeCount a) b)

@@ -1,48 +1,24 @@
 -- The layout that is placed for an item of a part's shape list is legal, and its furthest edges are exactly the item's: each side takes the narrowest item no taller than the part, and together these come to the item again.
 -- The two that the sides take are met in the merge by an item no taller and no wider than the one placed, which in an ordered list can only be that one itself.
-use mathlib.Core.Path.{_≡_, refl, sym, ap}
-use mathlib.Core.Bool.{Bool, true, false, cond, _&&_}
-use mathlib.Core.List.{List, [], _∷_, List·Memᴰ, List·Memᴰ·not-nil, List·Memᴰ·cases-cons}
-use mathlib.Core.Logic.{_⊎_, inl, inr}
-use Prim.Native.Nat.{ℕ, suc, _+_, _*_, _≤_, _<_, max}
+use mathlib.Core.Path.{_≡_, refl, ap}
+use mathlib.Core.List.{List, List·Memᴰ}
+use Prim.Native.Nat.{ℕ, _+_, _*_, _≤_, max}
 use native.Mathlib.Omega.{arith}
-use lib.ListN.{length, getD, length-append}
-use lib.Dec.{eqb}
-use borrow.Author.Tests.{eqb-true, eqb-false}
+use lib.ListN.{length, length-append}
 use Rattle.slicing.specs.Item.{Item, size, height, width}
 use Rattle.slicing.specs.Tree.{Tree, gauge, beside, stacked, gaugeCount}
 use Rattle.slicing.specs.Good.{Ordered, Good}
 use Rattle.slicing.specs.Merge.{merge, swap, turn}
 use Rattle.slicing.specs.Shapes.{shapes}
 use Rattle.slicing.specs.Layout.{Layout, rightmost, topmost, LeftsFrom, BottomsFrom, Legal}
-use Rattle.slicing.specs.Fit.{noTaller, noWider, indexOf, place, words}
+use Rattle.slicing.specs.Fit.{noTaller, noWider, place, words}
 use Rattle.slicing.proofs.MergeLaws.{maxplus}
 use Rattle.slicing.proofs.TurnLaws.{turn-out, turn-ordered}
 use Rattle.slicing.proofs.ShapeLaws.{shapes-ordered}
 use Rattle.slicing.proofs.Counts.{gauges-joined}
+use Rattle.slicing.proofs.GaugeUseful.{gauge-useful}
+use Rattle.slicing.proofs.Indexes.{index-found}
 use Rattle.slicing.proofs.NoTaller.{only-itself, no-taller-narrowest}
-
--- The index finds the size in the list.
-pub record Found (z : Item) (s : List Item) (d : Item) (i : ℕ) : Type 0 where
-  pub index : i < length s
-  pub same : getD s i d ≡ z
-
-found-step : (z y : Item) (s : List Item) (d : Item) (i : ℕ) → (List·Memᴰ z s → Found z s d i) → (z ≡ y) ⊎ List·Memᴰ z s → (b c : Bool) → eqb (height y) (height z) ≡ b → eqb (width y) (width z) ≡ c → Found z (y ∷ s) d (cond (b && c) 0 (suc i))
-found-step z y s d i next m true true e f =
-    let h = eqb-true (height y) (height z) e in
-    let w = eqb-true (width y) (width z) f in
-    record { index = omega arith; same = λ k. record { m = h k; p = w k } }
-found-step z y s d i next (inl e) true false f g = absurd (eqb-false (width y) (width z) g (ap width (sym e)))
-found-step z y s d i next (inl e) false c f g = absurd (eqb-false (height y) (height z) f (ap height (sym e)))
-found-step z y s d i next (inr m) true false f g = let r = next m in record { index = omega arith; same = r .same }
-found-step z y s d i next (inr m) false c f g = let r = next m in record { index = omega arith; same = r .same }
-
-pub index-found : (z : Item) (s : List Item) (d : Item) → List·Memᴰ z s → Found z s d (indexOf z s)
-unfolding indexOf
-index-found z [] d m = absurd (List·Memᴰ·not-nil m)
-index-found z (y ∷ s) d m =
-    found-step z y s d (indexOf z s) (λ n. index-found z s d n) (List·Memᴰ·cases-cons m) (eqb (height y) (height z))
-    (eqb (width y) (width z)) refl refl
 
 -- The two that the sides take for an item of the merge: they are in their lists, and the item is the maximum of their m and the sum of their p.
 pub record Sides (gap : ℕ) (a b : List Item) (z : Item) : Type 0 where
@@ -123,7 +99,7 @@ sits-stacked gap a b z x y both first second =
 
 pub placed : (gap : ℕ) (t : Tree) (z : Item) (x y : ℕ) → Good t → List·Memᴰ z (shapes gap t) → Sits gap t z x y
 unfolding shapes
-placed gap (gauge s) z x y good i = sits-gauge gap s z x y i
+placed gap (gauge s) z x y good i = sits-gauge gap s z x y (gauge-useful s .sizes .from-size z i)
 placed gap (beside a b) z x y good i =
     let order-a = shapes-ordered gap a (good .0) in
     let order-b = shapes-ordered gap b (good .1) in

@@ -1,15 +1,16 @@
 -- The lists with records are the plain lists, once the records are forgotten.
 -- Every test of theirs looks at the items only, so both take the same steps.
-use mathlib.Core.Path.{_≡_, refl, ap}
+use mathlib.Core.Path.{_≡_, refl, ap, _∙_}
 use mathlib.Core.Bool.{Bool, true, false}
-use mathlib.Core.List.{List, [], _∷_, map, reverseAux}
-use Prim.Native.Nat.{ℕ, suc, _+_}
+use mathlib.Core.List.{List, [], _∷_, map, map-map, map-id, reverseAux}
+use Prim.Native.Nat.{ℕ, _+_}
 use lib.Dec.{ltb, eqb}
 use Rattle.slicing.specs.Item.{Item}
 use Rattle.slicing.specs.Tree.{Tree, gauge, beside, stacked, sizeCount}
+use Rattle.slicing.specs.Useful.{gaugeShapes}
 use Rattle.slicing.specs.Merge.{merge, swap, sum, turn}
 use Rattle.slicing.specs.Shapes.{shapes}
-use Rattle.slicing.specs.Recorded.{Recorded, items, numbered, mergeRecorded, swapRecorded, turnRecorded, shapesRecorded}
+use Rattle.slicing.specs.Recorded.{Recorded, items, inRecord, gaugeRecorded, mergeRecorded, swapRecorded, turnRecorded, shapesRecorded}
 
 pub items-merge : (gap : ℕ) (a b : List Recorded) → items (mergeRecorded gap a b) ≡ merge gap (items a) (items b)
 unfolding merge mergeRecorded
@@ -51,13 +52,13 @@ pub items-turn : (l : List Recorded) → items (turnRecorded l) ≡ turn (items 
 unfolding turn turnRecorded
 items-turn l = items-reversed l []
 
-pub items-numbered : (r : ℕ) (s : List Item) → items (numbered r s) ≡ s
-items-numbered r [] = refl
-items-numbered r (z ∷ s) = ap (λ (c : List Item). z ∷ c) (items-numbered (suc r) s)
+pub items-gauge : (r : ℕ) (s : List Item) → items (gaugeRecorded r s) ≡ gaugeShapes s
+unfolding gaugeRecorded
+items-gauge r s = map-map (λ (x : Recorded). x .item) (inRecord r s) (gaugeShapes s) ∙ map-id (gaugeShapes s)
 
 pub items-shapes : (gap r : ℕ) (t : Tree) → items (shapesRecorded gap r t) ≡ shapes gap t
 unfolding shapes shapesRecorded
-items-shapes gap r (gauge s) = items-numbered r s
+items-shapes gap r (gauge s) = items-gauge r s
 items-shapes gap r (beside a b) =
     simp (items-merge, items-shapes gap r a, items-shapes gap (r + sizeCount a) b)
 items-shapes gap r (stacked a b) =

@@ -16,10 +16,11 @@ use Rattle.slicing.specs.Demand2.{Chosen}
 use Rattle.slicing.proofs.Counts.{gauges-joined, sizes-joined}
 use Rattle.slicing.proofs.MergeLaws.{maxplus, merge-filled, merge-short}
 use Rattle.slicing.proofs.TurnLaws.{turn-in, turn-out, turn-ordered, turn-length}
+use Rattle.slicing.proofs.GaugeUseful.{gauge-useful}
 
 pub shapes-ordered : (gap : ℕ) (t : Tree) → Good t → Ordered (shapes gap t)
 unfolding shapes
-shapes-ordered gap (gauge s) h = h .ordered
+shapes-ordered gap (gauge s) h = gauge-useful s .sizes .order
 shapes-ordered gap (beside a b) h =
     maxplus gap (shapes gap a) (shapes gap b) (shapes-ordered gap a (h .0)) (shapes-ordered gap b (h .1)) .order
 shapes-ordered gap (stacked a b) h =
@@ -32,7 +33,7 @@ turn-filled l h = omega (arith, turn-length l)
 
 pub shapes-filled : (gap : ℕ) (t : Tree) → Good t → 1 ≤ length (shapes gap t)
 unfolding shapes
-shapes-filled gap (gauge s) h = h .some
+shapes-filled gap (gauge s) h = gauge-useful s .filled (h .some)
 shapes-filled gap (beside a b) h =
     merge-filled gap (shapes gap a) (shapes gap b) (shapes-filled gap a (h .0)) (shapes-filled gap b (h .1))
 shapes-filled gap (stacked a b) h =
@@ -43,7 +44,7 @@ shapes-filled gap (stacked a b) h =
 -- At most n - g + 1 items.
 pub shapes-short : (gap : ℕ) (t : Tree) → Good t → length (shapes gap t) + gaugeCount t ≤ sizeCount t + 1
 unfolding shapes
-shapes-short gap (gauge s) h = omega arith
+shapes-short gap (gauge s) h = omega (arith, gauge-useful s .short)
 shapes-short gap (beside a b) h =
     omega (
       arith,
@@ -70,7 +71,7 @@ shapes-short gap (stacked a b) h =
 
 pub shapes-chosen : (gap : ℕ) (t : Tree) (z : Item) → Good t → List·Memᴰ z (shapes gap t) → Chosen gap t z
 unfolding shapes
-shapes-chosen gap (gauge s) z h i = record { choice = (z, i); same = refl }
+shapes-chosen gap (gauge s) z h i = record { choice = (z, gauge-useful s .sizes .from-size z i); same = refl }
 shapes-chosen gap (beside a b) z h i =
     let pair = maxplus gap (shapes gap a) (shapes gap b) (shapes-ordered gap a (h .0)) (shapes-ordered gap b (h .1)) .from z i in
     let x = shapes-chosen gap a (pair .first) (h .0) (pair .first-in) in
@@ -104,7 +105,7 @@ meets-more l m p m' p' h k x =
 
 pub shapes-meet : (gap : ℕ) (t : Tree) → Good t → (c : Choice t) → Meets (shapes gap t) (extent gap t c .m) (extent gap t c .p)
 unfolding shapes
-shapes-meet gap (gauge s) h c = record { item = c .0; item-in = c .1; no-taller = omega arith; no-wider = omega arith }
+shapes-meet gap (gauge s) h c = gauge-useful s .sizes .size-met (c .0) (c .1)
 shapes-meet gap (beside a b) h c =
     let x = shapes-meet gap a (h .0) (c .0) in
     let y = shapes-meet gap b (h .1) (c .1) in

@@ -1,10 +1,11 @@
 -- Document 01, "Fit": the face that is picked, its layout going down the tree, and the words that the layout is written as.
 use mathlib.Core.Bool.{Bool, cond, _&&_, _||_}
 use mathlib.Core.List.{List, [], _∷_, _++_}
-use Prim.Native.Nat.{ℕ, suc, _+_, _*_}
+use Prim.Native.Nat.{ℕ, _+_, _*_}
 use lib.Dec.{leb, ltb, eqb}
 use Rattle.slicing.specs.Item.{Item, size, height, width}
 use Rattle.slicing.specs.Tree.{Tree, gauge, beside, stacked}
+use Rattle.slicing.specs.Useful.{indexOf}
 use Rattle.slicing.specs.Merge.{swap, turn}
 use Rattle.slicing.specs.Shapes.{shapes}
 use Rattle.slicing.specs.Layout.{Layout, sizeIn, Outline}
@@ -43,11 +44,6 @@ noTaller h (z ∷ l) = cond (leb (height z) h) z (noTaller h l)
 -- "Stacked: the same with width for height"
 abbrev pub noWider : ℕ → List Item → Item
 noWider w l = swap (noTaller w (turn l))
-
--- The index of a size among the printed sizes of a gauge.
-unfoldable pub indexOf : Item → List Item → ℕ
-indexOf z [] = 0
-indexOf z (y ∷ l) = cond (eqb (height y) (height z) && eqb (width y) (width z)) 0 (suc (indexOf z l))
 
 -- The layout of a part with the item z, its lower left corner at x, y. "In a side-by-side part of height h, each side takes its narrowest item no taller than h; the right part starts at the left item's width. Stacked: the same with width for height, upward. A gauge sits in the lower left corner of its part."
 unfoldable pub place : ℕ → (t : Tree) → Item → ℕ → ℕ → Layout t

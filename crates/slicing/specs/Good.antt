@@ -1,4 +1,4 @@
--- What document 01 lets a face's gauges be: the trees that a taken file can mean.
+-- What documents 01 and 02 let a face's gauges be: the trees that a taken file can mean.
 use mathlib.Core.List.{List, [], _∷_, List·Memᴰ}
 use Prim.Native.Nat.{_≤_, _<_}
 use lib.ListN.{length}
@@ -17,12 +17,11 @@ abbrev pub Ordered : List Item → Type 0
 Ordered [] = Unit {0}
 Ordered (y ∷ l) = ((z : Item) → List·Memᴰ z l → (z .m < y .m) × (y .p < z .p)) × Ordered l
 
--- A gauge: 1 to 8 sizes, each within the limits, strictly ordered.
+-- A gauge: 1 to 8 sizes, each within the limits.
 pub record GoodGauge (sizes : List Item) : Type 0 where
   pub some : 1 ≤ length sizes
   pub few : length sizes ≤ 8
   pub limited : (z : Item) → List·Memᴰ z sizes → Limited z
-  pub ordered : Ordered sizes
 
 abbrev pub Good : Tree → Type 0
 Good (gauge s) = GoodGauge s

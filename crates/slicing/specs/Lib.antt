@@ -1,6 +1,7 @@
 pub mod Item
 pub mod Tree
 pub mod Good
+pub mod Useful
 pub mod Merge
 pub mod Shapes
 pub mod Recorded
@@ -8,5 +9,6 @@ pub mod Choice
 pub mod Layout
 pub mod Fit
 pub mod Maxplus
+pub mod UsefulMeans
 pub mod FitMeans
 pub mod Demand2

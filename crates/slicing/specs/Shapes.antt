@@ -3,11 +3,8 @@ use mathlib.Core.List.{List}
 use Prim.Native.Nat.{ℕ}
 use Rattle.slicing.specs.Item.{Item}
 use Rattle.slicing.specs.Tree.{Tree, gauge, beside, stacked}
+use Rattle.slicing.specs.Useful.{gaugeShapes}
 use Rattle.slicing.specs.Merge.{merge, turn}
-
--- The shape list of a gauge: its printed sizes as they stand.
-abbrev pub gaugeShapes : List Item → List Item
-gaugeShapes s = s
 
 -- For side by side, m is height and p width; for stacked, m is width and p height.
 unfoldable pub shapes : ℕ → Tree → List Item
