@@ -17,13 +17,14 @@ use Rattle.slicing.specs.Tree.{Tree, gauge, beside, stacked, gaugesOf, sizesOf}
 use Rattle.entries.specs.declared.Cursor.{Cursor}
 use Rattle.entries.specs.declared.Step.{Step}
 use Rattle.entries.specs.declared.Step.the-variants.{Stop, Next}
+use Rattle.sizes.specs.Rules.{Rules}
 use Rattle.sizes.specs.GaugeSizes.{within, sizesFrom}
 use Rattle.entries.specs.Entry.{State, skip, gaugeTaken, gaugeSizes, gaugeEntry, joinParts, joinEntry, kindEntry, entry}
 use Rattle.entries.specs.inside.Tracking.{flat, Fair, Tracks, Follows, Does, advance}
 use Rattle.entries.specs.inside.Kinds.{Cut}
 use Rattle.sizes.proofs.SizeChecks.{within-true}
 use Rattle.entries.proofs.Took.{state}
-use Rattle.sizes.proofs.GoodSizes.{sizes-good}
+use Rattle.sizes.proofs.GoodSizes.{sizes-taken as taken-sizes}
 use Rattle.entries.proofs.Stacks.{join-flat, gauges-join, sizes-join}
 
 follows-stop : (file : List ℕ) (a : Answer State) (k : Check) (n : ℕ) → a ≡ refused k → n ≡ numberOf k → Follows file a (Stop n)
@@ -65,49 +66,49 @@ pub in-range : (count : ℕ) (b : Bool) → b ≡ within 1 8 count → not b ≡
 in-range count b e h = within-true 1 8 count (sym e ∙ not-false b h)
 
 -- The sizes of a gauge.
-module _ (file : List ℕ) (c : Cursor) (count : ℕ) where
-  pub sizes-count : (b : Bool) → b ≡ within 1 8 count → not b ≡ true → Does (gaugeSizes count) file c (Stop 7)
+module _ (rules : Rules) (file : List ℕ) (c : Cursor) (count : ℕ) where
+  pub sizes-count : (b : Bool) → b ≡ within 1 8 count → not b ≡ true → Does (gaugeSizes rules count) file c (Stop 7)
   unfolding Does gaugeSizes
   sizes-count b e h s t =
       let outside : within 1 8 count ≡ false = sym e ∙ not-true b h in
-      follows-stop file (gaugeSizes count s) SizeCount 7 (simp outside) refl
+      follows-stop file (gaugeSizes rules count s) SizeCount 7 (simp outside) refl
 
-  pub sizes-short : (b : Bool) → b ≡ within 1 8 count → not b ≡ false → length file - c .at < 4 * count → Does (gaugeSizes count) file c (Stop 5)
+  pub sizes-short : (b : Bool) → b ≡ within 1 8 count → not b ≡ false → length file - c .at < 4 * count → Does (gaugeSizes rules count) file c (Stop 5)
   unfolding Does gaugeSizes
   sizes-short b e good h s t =
       let inside : within 1 8 count ≡ true = sym e ∙ not-false b good in
       let few : length (s .rest) < 4 * count = omega (arith, left file c s t) in
-      follows-stop file (gaugeSizes count s) Present 5 (simp (inside, lt-leb (4 * count) (length (s .rest)) few)) refl
+      follows-stop file (gaugeSizes rules count s) Present 5 (simp (inside, lt-leb (4 * count) (length (s .rest)) few)) refl
 
   -- The number of checks 8 and 9 on the sizes, as the code has it.
-  module _ (b : Bool) (range : b ≡ within 1 8 count) (good : not b ≡ false) (present : 4 * count ≤ length file - c .at) (n : ℕ) (checked : n ≡ number (sizesFrom count (drop (c .at) file))) where
-    sized : (s : State) → Tracks file c s → gaugeSizes count s ≡ next (sizesFrom count (s .rest)) (gaugeTaken (skip (4 * count) s))
+  module _ (b : Bool) (range : b ≡ within 1 8 count) (good : not b ≡ false) (present : 4 * count ≤ length file - c .at) (n : ℕ) (checked : n ≡ number (sizesFrom rules count (drop (c .at) file))) where
+    sized : (s : State) → Tracks file c s → gaugeSizes rules count s ≡ next (sizesFrom rules count (s .rest)) (gaugeTaken (skip (4 * count) s))
     unfolding gaugeSizes
     sized s t =
         let inside : within 1 8 count ≡ true = sym range ∙ not-false b good in
         let enough : 4 * count ≤ length (s .rest) = omega (arith, left file c s t) in
         simp (inside, le-leb (4 * count) (length (s .rest)) enough)
 
-    at-rest : (s : State) → Tracks file c s → n ≡ number (sizesFrom count (s .rest))
-    at-rest s t = checked ∙ ap (λ (l : List ℕ). number (sizesFrom count l)) (sym (t .rest))
+    at-rest : (s : State) → Tracks file c s → n ≡ number (sizesFrom rules count (s .rest))
+    at-rest s t = checked ∙ ap (λ (l : List ℕ). number (sizesFrom rules count l)) (sym (t .rest))
 
-    pub sizes-bad : (n ≡ 0 → ⊥) → Does (gaugeSizes count) file c (Stop n)
+    pub sizes-bad : (n ≡ 0 → ⊥) → Does (gaugeSizes rules count) file c (Stop n)
     unfolding Does
     sizes-bad h s t =
-        let bad = number-refused (sizesFrom count (s .rest)) n (at-rest s t) h in
-        follows-stop file (gaugeSizes count s) (bad .0) n
+        let bad = number-refused (sizesFrom rules count (s .rest)) n (at-rest s t) h in
+        follows-stop file (gaugeSizes rules count s) (bad .0) n
         (sized s t ∙ ap (λ (a : Answer (List Item)). next a (gaugeTaken (skip (4 * count) s))) (bad .1)) (bad .2)
 
-    pub sizes-taken : Fair file c → c .gauges < 64 → n ≡ 0 → Does (gaugeSizes count) file c (Next (record { at = c .at + 4 * count; parts = c .parts + 1; gauges = c .gauges + 1; sizes = c .sizes + count }))
+    pub sizes-taken : Fair file c → c .gauges < 64 → n ≡ 0 → Does (gaugeSizes rules count) file c (Next (record { at = c .at + 4 * count; parts = c .parts + 1; gauges = c .gauges + 1; sizes = c .sizes + count }))
     unfolding Does
     sizes-taken f few h s t =
-        let passed = number-taken (sizesFrom count (s .rest)) (sym (at-rest s t) ∙ h) in
+        let passed = number-taken (sizesFrom rules count (s .rest)) (sym (at-rest s t) ∙ h) in
         let zs = passed .0 in
         let gauges = length-append (flat gaugesOf (s .stack)) (zs ∷ []) in
         let sizes = length-append (flat sizesOf (s .stack)) zs in
         let counts = in-range count b range good in
-        let counted = sizes-good count (s .rest) zs (counts .0) (counts .1) (passed .1) .1 in
-        follows-next file (gaugeSizes count s)
+        let counted = taken-sizes rules count (s .rest) zs (counts .0) (counts .1) (passed .1) .as-many in
+        follows-next file (gaugeSizes rules count s)
         (record { rest = drop (4 * count) (s .rest); stack = gauge zs ∷ s .stack; gauges = s .gauges + 1 })
         (record { at = c .at + 4 * count; parts = c .parts + 1; gauges = c .gauges + 1; sizes = c .sizes + count })
         (sized s t ∙ ap (λ (a : Answer (List Item)). next a (gaugeTaken (skip (4 * count) s))) (passed .1))
@@ -121,21 +122,21 @@ module _ (file : List ℕ) (c : Cursor) (count : ℕ) where
         })
 
 -- A gauge, after its kind byte.
-module _ (file : List ℕ) (c : Cursor) where
-  pub gauge-many : 64 ≤ c .gauges → Does gaugeEntry file c (Stop 10)
+module _ (rules : Rules) (file : List ℕ) (c : Cursor) where
+  pub gauge-many : 64 ≤ c .gauges → Does (gaugeEntry rules) file c (Stop 10)
   unfolding Does gaugeEntry
   gauge-many h s t =
       let many : 64 ≤ s .gauges = omega (arith, t .gauges) in
-      follows-stop file (gaugeEntry s) Gauges 10 (simp (le-ltb (s .gauges) 64 many)) refl
+      follows-stop file (gaugeEntry rules s) Gauges 10 (simp (le-ltb (s .gauges) 64 many)) refl
 
-  pub gauge-cut : c .gauges < 64 → length file ≤ c .at → Does gaugeEntry file c (Stop 5)
+  pub gauge-cut : c .gauges < 64 → length file ≤ c .at → Does (gaugeEntry rules) file c (Stop 5)
   unfolding Does gaugeEntry
   gauge-cut few h s t =
       let none : length (s .rest) ≤ 0 = omega (arith, left file c s t) in
       let one : s .gauges < 64 = omega (arith, t .gauges) in
-      follows-stop file (gaugeEntry s) Present 5 (simp (lt-ltb (s .gauges) 64 one, le-ltb 0 (length (s .rest)) none)) refl
+      follows-stop file (gaugeEntry rules s) Present 5 (simp (lt-ltb (s .gauges) 64 one, le-ltb 0 (length (s .rest)) none)) refl
 
-  pub gauge-read : (count : ℕ) (d : Cursor) (r : Step) → c .gauges < 64 → c .at < length file → count ≡ getD file (c .at) 0 → d ≡ advance c 1 → Does (gaugeSizes count) file d r → Does gaugeEntry file c r
+  pub gauge-read : (count : ℕ) (d : Cursor) (r : Step) → c .gauges < 64 → c .at < length file → count ≡ getD file (c .at) 0 → d ≡ advance c 1 → Does (gaugeSizes rules count) file d r → Does (gaugeEntry rules) file c r
   unfolding Does gaugeEntry
   gauge-read count d r few h e after does s t =
       let some : 0 < length (s .rest) = omega (arith, left file c s t) in
@@ -180,33 +181,33 @@ module _ (file : List ℕ) (c : Cursor) (cut : Tree → Tree → Tree) where
     join-taken s t = joined (s .rest) (s .stack) (s .gauges) t
 
 -- A whole entry.
-module _ (file : List ℕ) (c : Cursor) where
-  pub entry-cut : length file ≤ c .at → Does entry file c (Stop 5)
+module _ (rules : Rules) (file : List ℕ) (c : Cursor) where
+  pub entry-cut : length file ≤ c .at → Does (entry rules) file c (Stop 5)
   unfolding Does entry
   entry-cut h s t =
       let none : length (s .rest) ≤ 0 = omega (arith, left file c s t) in
-      follows-stop file (entry s) Present 5 (simp (le-ltb 0 (length (s .rest)) none)) refl
+      follows-stop file (entry rules s) Present 5 (simp (le-ltb 0 (length (s .rest)) none)) refl
 
   module _ (kind : ℕ) (h : c .at < length file) (e : kind ≡ getD file (c .at) 0) where
-    by-kind : (s : State) → Tracks file c s → entry s ≡ kindEntry kind (skip 1 s)
+    by-kind : (s : State) → Tracks file c s → entry rules s ≡ kindEntry rules kind (skip 1 s)
     unfolding entry
     by-kind s t =
         let some : 0 < length (s .rest) = omega (arith, left file c s t) in
         let found : getD (s .rest) 0 0 ≡ kind = first file c s t ∙ sym e in
         simp (lt-ltb 0 (length (s .rest)) some, found)
 
-    pub entry-gauge : (d : Cursor) (r : Step) → d ≡ advance c 1 → kind ≡ 1 → Does gaugeEntry file d r → Does entry file c r
+    pub entry-gauge : (d : Cursor) (r : Step) → d ≡ advance c 1 → kind ≡ 1 → Does (gaugeEntry rules) file d r → Does (entry rules) file c r
     unfolding Does kindEntry
     entry-gauge d r after k does s t =
         rw (by-kind s t) (simp (eq-eqb kind 0x01 k) (does (skip 1 s) (rw after (tracks-skip file c s 1 t))))
 
-    pub entry-beside : (d : Cursor) (r : Step) → d ≡ advance c 1 → kind ≡ 2 → Does (joinEntry beside) file d r → Does entry file c r
+    pub entry-beside : (d : Cursor) (r : Step) → d ≡ advance c 1 → kind ≡ 2 → Does (joinEntry beside) file d r → Does (entry rules) file c r
     unfolding Does kindEntry
     entry-beside d r after k does s t =
         let no : kind ≡ 0x01 → ⊥ = omega arith in
         rw (by-kind s t) (simp (ne-eqb kind 0x01 no, eq-eqb kind 0x02 k) (does (skip 1 s) (rw after (tracks-skip file c s 1 t))))
 
-    pub entry-stacked : (d : Cursor) (r : Step) → d ≡ advance c 1 → kind ≡ 3 → Does (joinEntry stacked) file d r → Does entry file c r
+    pub entry-stacked : (d : Cursor) (r : Step) → d ≡ advance c 1 → kind ≡ 3 → Does (joinEntry stacked) file d r → Does (entry rules) file c r
     unfolding Does kindEntry
     entry-stacked d r after k does s t =
         let no : kind ≡ 0x01 → ⊥ = omega arith in
@@ -214,9 +215,9 @@ module _ (file : List ℕ) (c : Cursor) where
         rw (by-kind s t)
         (simp (ne-eqb kind 0x01 no, ne-eqb kind 0x02 no-beside, eq-eqb kind 0x03 k) (does (skip 1 s) (rw after (tracks-skip file c s 1 t))))
 
-  pub entry-unknown : c .at < length file → (getD file (c .at) 0 ≡ 1 → ⊥) → (getD file (c .at) 0 ≡ 2 → ⊥) → (getD file (c .at) 0 ≡ 3 → ⊥) → Does entry file c (Stop 6)
+  pub entry-unknown : c .at < length file → (getD file (c .at) 0 ≡ 1 → ⊥) → (getD file (c .at) 0 ≡ 2 → ⊥) → (getD file (c .at) 0 ≡ 3 → ⊥) → Does (entry rules) file c (Stop 6)
   unfolding Does kindEntry
   entry-unknown h x y z s t =
       let kind = getD file (c .at) 0 in
-      follows-stop file (entry s) Kind 6
+      follows-stop file (entry rules s) Kind 6
       (by-kind kind h refl s t ∙ simp (ne-eqb kind 0x01 x, ne-eqb kind 0x02 y, ne-eqb kind 0x03 z)) refl

@@ -4,6 +4,7 @@ use mathlib.Core.Path.{_≡_, refl, sym, ap, _∙_}
 use mathlib.Core.List.{List, [], _∷_, _++_, append-nil, append-assoc}
 use Prim.Native.Nat.{ℕ}
 use Rattle.slicing.specs.Tree.{Tree, gauge, beside, stacked, gaugesOf, sizesOf}
+use Rattle.sizes.specs.Rules.{Rules}
 use Rattle.entries.specs.Entry.{State}
 use Rattle.entries.specs.inside.Tracking.{flat}
 use Rattle.entries.specs.inside.Kinds.{Cut, cut-beside, cut-stacked}
@@ -31,12 +32,12 @@ module _ {A : Type 0} (f : Tree → List A) (joins : Joins f) where
       ap (λ (l : List A). flat f parts ++ l) (at-cut kind cut a b c) ∙ sym (append-assoc (flat f parts) (f a) (f b))
 
   -- What an entry adds.
-  pub took-flat : (s t : State) → Took s t → (more : List A) × (flat f (t .stack) ≡ flat f (s .stack) ++ more)
+  pub took-flat : {rules : Rules} (s t : State) → Took rules s t → (more : List A) × (flat f (t .stack) ≡ flat f (s .stack) ++ more)
   took-flat s t (took-gauge count bytes parts g z few some most present sized) = (f (gauge z), refl)
   took-flat s t (took-join kind cut bytes a b parts g c) =
       ([], join-flat kind cut a b parts c ∙ sym (append-nil (flat f (b ∷ a ∷ parts))))
 
-  pub reads-flat : (k : ℕ) (s t : State) → Reads k s t → (more : List A) × (flat f (t .stack) ≡ flat f (s .stack) ++ more)
+  pub reads-flat : {rules : Rules} (k : ℕ) (s t : State) → Reads rules k s t → (more : List A) × (flat f (t .stack) ≡ flat f (s .stack) ++ more)
   reads-flat k s t (reads-none x) = ([], sym (append-nil (flat f (s .stack))))
   reads-flat k s t (reads-more j x u y first rest) =
       let p = took-flat s u first in

@@ -1,8 +1,9 @@
-// One entry of the file, read from a cursor. Each function does what the definition of the same entry says, from any
-// state that the cursor stands for.
+// One entry of a file of some version, read from a cursor. Each function does what the definition of the same entry
+// says, from any state that the cursor stands for.
 ghost use mathlib.Core.Path.{_≡_};
 ghost use Prim.Native.Nat.{_+_, _<_, _^_};
 ghost use Rattle.slicing.specs.Tree.{beside, stacked};
+ghost use Rattle.sizes.specs.Rules.{versionRules};
 ghost use Rattle.entries.specs.Entry.{joinEntry, entry};
 ghost use Rattle.entries.specs.inside.Tracking.{Fair, Does, advance};
 use crate::BESIDE;
@@ -43,9 +44,9 @@ fn read_join(file: &[u8], c: Cursor) -> Step
 }
 
 // A whole entry.
-pub fn read_entry(file: &[u8], c: Cursor) -> Step
+pub fn read_entry(file: &[u8], version: u32, c: Cursor) -> Step
     requires { ⌜ Fair (now file) c ⌝ }
-    ensures { λ r. ⌜ Does entry (now (file .entry)) c r ⌝ }
+    ensures { λ r. ⌜ Does (entry (versionRules version)) (now (file .entry)) c r ⌝ }
 {
     let at = c.at;
     if file.len() <= at {
@@ -54,7 +55,7 @@ pub fn read_entry(file: &[u8], c: Cursor) -> Step
     let kind = file[at];
     let after = advanced(c, 1);
     if kind == GAUGE {
-        return read_gauge(file, after);
+        return read_gauge(file, version, after);
     }
     if kind == BESIDE {
         return read_join(file, after);

@@ -1,6 +1,7 @@
 -- What the bytes at a place of a file say of the entry that was taken there: a gauge with its count and its sizes, or a join.
 -- An entry is taken from the bytes that are left, and these are what the file has from the place on.
-use mathlib.Core.Path.{_≡_, refl, sym, ap, ap₂, _∙_}
+use mathlib.Core.Path.{_≡_, refl, sym, ap, ap₂, subst, _∙_}
+use mathlib.Core.Bool.{true}
 use mathlib.Core.List.{List, _∷_}
 use Prim.Native.Nat.{ℕ, _+_, _-_, _*_, _≤_, _<_}
 use native.Mathlib.Nat.{add-zero}
@@ -9,6 +10,8 @@ use lib.ListN.{length, getD, take, drop, length-drop}
 use lib.Seq.{drop-drop, getD-drop, getD-take, length-take-le}
 use Rattle.slicing.specs.Item.{Item}
 use Rattle.slicing.specs.Tree.{Tree, gauge}
+use Rattle.slicing.specs.Good.{Ordered}
+use Rattle.sizes.specs.Rules.{Rules, asksOrder}
 use Rattle.facefile.specs.declared.walk.GaugeEntry.{GaugeEntry}
 use Rattle.entries.specs.Entry.{State}
 use Rattle.entries.specs.inside.Kinds.{Cut, cut-beside, cut-stacked}
@@ -16,6 +19,7 @@ use Rattle.sizes.specs.inside.Sizes.{sizesIn}
 use Rattle.facefile.specs.inside.Walk.{stateAt}
 use Rattle.entries.proofs.Took.{state, Took, took-gauge, took-join}
 use Rattle.sizes.proofs.SizesIn.{from-in, in-same}
+use Rattle.sizes.proofs.GoodSizes.{sizes-taken}
 
 -- What stands at a place of a list and after it, from what is left there.
 module _ (file : List ℕ) (at : ℕ) where
@@ -33,8 +37,10 @@ abbrev pub gaugeEntryAt : ℕ → ℕ → GaugeEntry
 gaugeEntryAt at n = record { from = at + 2; to = at + 2 + 4 * n; count = n; next = at + 2 + 4 * n }
 
 -- A gauge was taken at the place.
-pub record TookGauge (file : List ℕ) (at n : ℕ) (s u : State) : Type 0 where
+pub record TookGauge (rules : Rules) (file : List ℕ) (at n : ℕ) (s u : State) : Type 0 where
+  pub some : 1 ≤ n
   pub few : n ≤ 8
+  pub order : asksOrder rules ≡ true → Ordered (sizesIn n (drop (at + 2) file))
   pub fits : at + 2 + 4 * n ≤ length file
   pub after : u ≡ stateAt file (at + 2 + 4 * n) (gauge (sizesIn n (drop (at + 2) file)) ∷ s .stack) (s .gauges + 1)
 
@@ -53,23 +59,26 @@ not-gauge kind cut cut-beside e = omega arith
 not-gauge kind cut cut-stacked e = omega arith
 
 module _ (file : List ℕ) (at : ℕ) where
-  pub gauge-read : (n : ℕ) (s u : State) → Took s u → drop at file ≡ s .rest → at < length file → getD file at 0 ≡ 0x01 → n ≡ getD file (at + 1) 0 → TookGauge file at n s u
+  pub gauge-read : {rules : Rules} (n : ℕ) (s u : State) → Took rules s u → drop at file ≡ s .rest → at < length file → getD file at 0 ≡ 0x01 → n ≡ getD file (at + 1) 0 → TookGauge rules file at n s u
   gauge-read n s u (took-gauge count bytes parts g z few some most present sized) here more e counted =
       let long = left-at file at (0x01 ∷ count ∷ bytes) here in
       let past : drop (at + 2) file ≡ bytes = past-place file at 2 (0x01 ∷ count ∷ bytes) here in
       let same : n ≡ count = counted ∙ at-place file (at + 1) count bytes (past-place file at 1 (0x01 ∷ count ∷ bytes) here) in
+      let sizes : z ≡ sizesIn n (drop (at + 2) file) = from-in _ count bytes z sized ∙ sym (ap₂ sizesIn same past) in
       record {
+        some = omega arith;
         few = omega arith;
+        order = λ asked. subst Ordered sizes (sizes-taken _ count bytes z some most sized .order asked);
         fits = omega arith;
         after =
             ap₂ (λ (r : List ℕ) (l : List Item). state r (gauge l ∷ parts) (g + 1))
             (sym (ap (λ (k : ℕ). drop (at + 2 + 4 * k) file) same ∙ past-place file (at + 2) (4 * count) bytes past))
-            (from-in count bytes z sized ∙ sym (ap₂ sizesIn same past));
+            sizes;
       }
   gauge-read n s u (took-join kind cut bytes a b parts g c) here more e counted =
       absurd (not-gauge kind cut c (sym (at-place file at kind bytes here) ∙ e))
 
-  pub join-read : (s u : State) → Took s u → drop at file ≡ s .rest → (getD file at 0 ≡ 0x01 → ⊥) → TookJoin file at s u
+  pub join-read : {rules : Rules} (s u : State) → Took rules s u → drop at file ≡ s .rest → (getD file at 0 ≡ 0x01 → ⊥) → TookJoin file at s u
   join-read s u (took-gauge count bytes parts g z few some most present sized) here e =
       absurd (e (at-place file at 0x01 (count ∷ bytes) here))
   join-read s u (took-join kind cut bytes a b parts g c) here e =

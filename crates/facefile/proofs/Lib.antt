@@ -1,4 +1,5 @@
 pub mod Taken
+pub mod Version1
 pub mod Refused
 pub mod SizeBytes
 pub mod EntryBytes

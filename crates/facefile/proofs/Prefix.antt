@@ -14,9 +14,10 @@ use Rattle.checks.specs.Check.{Check, SizeCount, Present, Gauges}
 use Rattle.checks.specs.Answer.{Answer, refused, taken, ask, next}
 use Rattle.slicing.specs.Item.{Item}
 use Rattle.slicing.specs.Tree.{Tree, gauge, beside, stacked}
+use Rattle.sizes.specs.Rules.{Rules}
 use Rattle.sizes.specs.GaugeSizes.{field, within, sizeAt, sizesAfter, sizesFrom}
 use Rattle.entries.specs.Entry.{State, gaugeTaken, gaugeSizes, gaugeEntry, joinParts, joinEntry, kindEntry, entry, entries}
-use Rattle.facefile.specs.Format.{onePart, atEnd, header, start, faceOf}
+use Rattle.facefile.specs.Format.{onePart, atEnd, header, rulesOf, start, faceOf}
 use Rattle.sizes.proofs.SizeChecks.{within-true}
 use Rattle.entries.proofs.Took.{state}
 use Rattle.facefile.proofs.Taken.{header-taken}
@@ -38,19 +39,19 @@ field-same : (m : ℕ) (l : List ℕ) (at : ℕ) → at + 1 < m → field (take 
 field-same m l at h = rw (getD-take m l at 0 (omega arith), getD-take m l (at + 1) 0 h)
 
 -- k sizes are seen in the first 4 * k bytes.
-after-same : (y : Item) (k m : ℕ) (l : List ℕ) → 4 * k ≤ m → sizesAfter y k (take m l) ≡ sizesAfter y k l
+after-same : (rules : Rules) (y : Item) (k m : ℕ) (l : List ℕ) → 4 * k ≤ m → sizesAfter rules y k (take m l) ≡ sizesAfter rules y k l
 unfolding sizesAfter
-after-same y zero m l h = refl
-after-same y (suc k) m l h =
+after-same rules y zero m l h = refl
+after-same rules y (suc k) m l h =
     simp
-    (field-same m l 0 (omega arith), field-same m l 2 (omega arith), drop-take 4 m l, after-same (sizeAt l) k (m - 4) (drop 4 l) (omega arith))
+    (field-same m l 0 (omega arith), field-same m l 2 (omega arith), drop-take 4 m l, after-same rules (sizeAt l) k (m - 4) (drop 4 l) (omega arith))
 
-sizes-same : (k m : ℕ) (l : List ℕ) → 4 * k ≤ m → sizesFrom k (take m l) ≡ sizesFrom k l
+sizes-same : (rules : Rules) (k m : ℕ) (l : List ℕ) → 4 * k ≤ m → sizesFrom rules k (take m l) ≡ sizesFrom rules k l
 unfolding sizesFrom
-sizes-same zero m l h = refl
-sizes-same (suc k) m l h =
+sizes-same rules zero m l h = refl
+sizes-same rules (suc k) m l h =
     simp
-    (field-same m l 0 (omega arith), field-same m l 2 (omega arith), drop-take 4 m l, after-same (sizeAt l) k (m - 4) (drop 4 l) (omega arith))
+    (field-same m l 0 (omega arith), field-same m l 2 (omega arith), drop-take 4 m l, after-same rules (sizeAt l) k (m - 4) (drop 4 l) (omega arith))
 
 -- f answers the same to the first m of the bytes left as to all of them, where m is enough for k entries, for the gauges that may still come, and for one byte more.
 abbrev Same : ℕ → (State → Answer Tree) → Type 0
@@ -65,7 +66,7 @@ end-same (suc m) (x ∷ rest) (t ∷ []) g h = simp eqb·suc-zero
 end-same (suc m) rest (t ∷ a ∷ parts) g h = refl
 
 -- One entry more: f is what follows it.
-module _ (k : ℕ) (f : State → Answer Tree) (on : Same k f) where
+module _ (rules : Rules) (k : ℕ) (f : State → Answer Tree) (on : Same k f) where
   ask-same : (b d : Bool) (c : Check) (x y : Answer State) → b ≡ d → (d ≡ true → next x f ≡ next y f) → next (ask b c x) f ≡ next (ask d c y) f
   ask-same true d c x y e h = rw (← e) (h (sym e))
   ask-same false d c x y e h = rw (← e)
@@ -81,20 +82,20 @@ module _ (k : ℕ) (f : State → Answer Tree) (on : Same k f) where
   join-same cut m rest (b ∷ a ∷ parts) g h = on m rest (cut a b ∷ parts) g h
 
   -- The sizes of a gauge take at most 32 bytes.
-  gauge-sizes-same : (count m : ℕ) (rest : List ℕ) (parts : List Tree) (g : ℕ) → k + 33 * (64 - (g + 1)) + 33 ≤ m → next (gaugeSizes count (state (take m rest) parts g)) f ≡ next (gaugeSizes count (state rest parts g)) f
+  gauge-sizes-same : (count m : ℕ) (rest : List ℕ) (parts : List Tree) (g : ℕ) → k + 33 * (64 - (g + 1)) + 33 ≤ m → next (gaugeSizes rules count (state (take m rest) parts g)) f ≡ next (gaugeSizes rules count (state rest parts g)) f
   unfolding gaugeSizes
   gauge-sizes-same count m rest parts g h =
       ask-same (within 1 8 count) (within 1 8 count) SizeCount _ _ refl (λ e.
       let most = within-true 1 8 count e .1 in
       let room : 4 * count ≤ m = omega arith in
       ask-same (leb (4 * count) (length (take m rest))) (leb (4 * count) (length rest)) Present _ _ (as-long (4 * count) m rest room) (λ p.
-      rw (sizes-same count m rest room, drop-take (4 * count) m rest) (sized room most (sizesFrom count rest))))
+      rw (sizes-same rules count m rest room, drop-take (4 * count) m rest) (sized room most (sizesFrom rules count rest))))
     where
       sized : 4 * count ≤ m → count ≤ 8 → (a : Answer (List Item)) → next (next a (gaugeTaken (state (take (m - 4 * count) (drop (4 * count) rest)) parts g))) f ≡ next (next a (gaugeTaken (state (drop (4 * count) rest) parts g))) f
       sized room most (refused c) = refl
       sized room most (taken z) = on (m - 4 * count) (drop (4 * count) rest) (gauge z ∷ parts) (g + 1) (omega arith)
 
-  gauge-same : Same k (λ s. next (gaugeEntry s) f)
+  gauge-same : Same k (λ s. next (gaugeEntry rules s) f)
   unfolding gaugeEntry
   gauge-same zero rest parts g h = absurd (omega arith)
   gauge-same (suc m) [] parts g h = refl
@@ -104,7 +105,7 @@ module _ (k : ℕ) (f : State → Answer Tree) (on : Same k f) where
       ask-same (ltb 0 (suc (length (take m bytes)))) (ltb 0 (suc (length bytes))) Present _ _ (as-long 1 (suc m) (count ∷ bytes) (omega arith))
       (λ p. gauge-sizes-same count m bytes parts g (omega arith)))
 
-  entry-same : Same (suc k) (λ s. next (entry s) f)
+  entry-same : Same (suc k) (λ s. next (entry rules s) f)
   unfolding entry kindEntry
   entry-same zero rest parts g h = absurd (omega arith)
   entry-same (suc m) [] parts g h = refl
@@ -119,13 +120,13 @@ next-next : (a : Answer State) (f : State → Answer State) → next (next a f) 
 next-next (refused c) f = refl
 next-next (taken s) f = refl
 
-entries-same : (k : ℕ) → Same k (λ s. next (entries k s) atEnd)
+entries-same : (rules : Rules) (k : ℕ) → Same k (λ s. next (entries rules k s) atEnd)
 unfolding entries
-entries-same zero m rest parts g h = end-same m rest parts g h
-entries-same (suc k) m rest parts g h =
-    next-next (entry (state (take m rest) parts g)) (entries k)
-    ∙ entry-same k (λ s. next (entries k s) atEnd) (entries-same k) m rest parts g h
-    ∙ sym (next-next (entry (state rest parts g)) (entries k))
+entries-same rules zero m rest parts g h = end-same m rest parts g h
+entries-same rules (suc k) m rest parts g h =
+    next-next (entry rules (state (take m rest) parts g)) (entries rules k)
+    ∙ entry-same rules k (λ s. next (entries rules k s) atEnd) (entries-same rules k) m rest parts g h
+    ∙ sym (next-next (entry rules (state rest parts g)) (entries rules k))
 
 header-same : (m : ℕ) (s : List ℕ) → 7 ≤ m → header (take m s) ≡ header s
 unfolding header
@@ -137,9 +138,9 @@ pub face-prefix : (s : List ℕ) → faceOf (take 2_247 s) ≡ faceOf s
 unfolding faceOf
 face-prefix s = rw (header-same 2_247 s (omega arith)) (by (header s) refl)
   where
-    by : (a : Answer ℕ) → header s ≡ a → next a (λ count. next (entries count (start (take 2_247 s))) atEnd) ≡ next a (λ count. next (entries count (start s)) atEnd)
+    by : (a : Answer ℕ) → header s ≡ a → next a (λ count. next (entries (rulesOf (take 2_247 s)) count (start (take 2_247 s))) atEnd) ≡ next a (λ count. next (entries (rulesOf s) count (start s)) atEnd)
     by (refused c) e = refl
     by (taken count) e =
         let head = header-taken s count e in
         let most = head .0 .most in
-        rw (drop-take 7 2_247 s) (entries-same count 2_240 (drop 7 s) [] 0 (omega (arith, head .1)))
+        rw (field-same 2_247 s 3 (omega arith), drop-take 7 2_247 s) (entries-same (rulesOf s) count 2_240 (drop 7 s) [] 0 (omega (arith, head .1)))

@@ -16,9 +16,10 @@ use Rattle.entries.specs.declared.Cursor.{Cursor}
 use Rattle.facefile.specs.declared.Face.{Face}
 use Rattle.entries.specs.declared.Step.{Step}
 use Rattle.entries.specs.declared.Step.the-variants.{Stop, Next}
+use Rattle.sizes.specs.Rules.{Rules, versionRules}
 use Rattle.sizes.specs.GaugeSizes.{field, within}
 use Rattle.entries.specs.Entry.{State, entry, entries}
-use Rattle.facefile.specs.Format.{marked, header, start, onePart, atEnd, faceOf}
+use Rattle.facefile.specs.Format.{marked, header, rulesOf, start, onePart, atEnd, faceOf}
 use Rattle.facefile.specs.Summary.{refusedFace, summary}
 use Rattle.entries.specs.inside.Tracking.{flat, Fair, Tracks, Follows, Does}
 use Rattle.facefile.specs.inside.Ending.{Ends}
@@ -69,74 +70,78 @@ module _ (s : List ℕ) where
       mark : marked s ≡ true
       mark = is-marked s long (same .0 (not-false b good))
 
-      pub header-version : (v : ℕ) → v ≡ field s 3 → (v ≡ 1 → ⊥) → 3 ≡ number (header s)
-      unfolding header
-      header-version v e h =
-          let other : field s 3 ≡ 1 → ⊥ = λ x. h (e ∙ x) in
-          simp (le-leb 7 (length s) long, mark, ne-eqb (field s 3) 1 other)
-
-      module _ (v : ℕ) (version : v ≡ field s 3) (one : v ≡ 1) (k : ℕ) (count : k ≡ field s 5) where
-        pub header-count : (w : Bool) → w ≡ within 1 127 k → not w ≡ true → 4 ≡ number (header s)
+      module _ (v : ℕ) (version : v ≡ field s 3) (u : Bool) (known : u ≡ within 1 2 v) where
+        pub header-version : not u ≡ true → 3 ≡ number (header s)
         unfolding header
-        header-count w e h =
-            let outside : within 1 127 (field s 5) ≡ false = ap (within 1 127) (sym count) ∙ sym e ∙ not-true w h in
-            simp (le-leb 7 (length s) long, mark, eq-eqb (field s 3) 1 (sym version ∙ one), outside)
+        header-version h =
+            let other : within 1 2 (field s 3) ≡ false = ap (within 1 2) (sym version) ∙ sym known ∙ not-true u h in
+            simp (le-leb 7 (length s) long, mark, other)
 
-        pub header-good : (w : Bool) → w ≡ within 1 127 k → not w ≡ false → 0 ≡ number (header s)
-        unfolding header
-        header-good w e h =
-            let inside : within 1 127 (field s 5) ≡ true = ap (within 1 127) (sym count) ∙ sym e ∙ not-false w h in
-            simp (le-leb 7 (length s) long, mark, eq-eqb (field s 3) 1 (sym version ∙ one), inside)
+        module _ (fine : not u ≡ false) (k : ℕ) (count : k ≡ field s 5) (w : Bool) (e : w ≡ within 1 127 k) where
+          one-or-two : within 1 2 (field s 3) ≡ true
+          one-or-two = ap (within 1 2) (sym version) ∙ sym known ∙ not-false u fine
+
+          pub header-count : not w ≡ true → 4 ≡ number (header s)
+          unfolding header
+          header-count h =
+              let outside : within 1 127 (field s 5) ≡ false = ap (within 1 127) (sym count) ∙ sym e ∙ not-true w h in
+              simp (le-leb 7 (length s) long, mark, one-or-two, outside)
+
+          pub header-good : not w ≡ false → 0 ≡ number (header s)
+          unfolding header
+          header-good h =
+              let inside : within 1 127 (field s 5) ≡ true = ap (within 1 127) (sym count) ∙ sym e ∙ not-false w h in
+              simp (le-leb 7 (length s) long, mark, one-or-two, inside)
 
 -- What the loop over the entries keeps.
-pub record Reading (file : List ℕ) (count : ℕ) (c : Cursor) (i : ℕ) : Type 0 where
+pub record Reading (rules : Rules) (file : List ℕ) (count : ℕ) (c : Cursor) (i : ℕ) : Type 0 where
   pub inside : i ≤ count
   pub fair : Fair file c
   pub state : State
   pub tracks : Tracks file c state
-  pub same : entries (count - i) state ≡ entries count (start file)
+  pub same : entries rules (count - i) state ≡ entries rules count (start file)
 
-pub reading-start : (file : List ℕ) (count : ℕ) → 7 ≤ length file → Reading file count (record { at = 7; parts = 0; gauges = 0; sizes = 0 }) 0
-reading-start file count h =
+pub reading-start : (rules : Rules) (file : List ℕ) (count : ℕ) → 7 ≤ length file → Reading rules file count (record { at = 7; parts = 0; gauges = 0; sizes = 0 }) 0
+reading-start rules file count h =
     record {
       inside = omega arith;
       fair = record { inside = h; parts-few = omega arith; gauges-few = omega arith; sizes-few = omega arith };
       state = start file;
       tracks = record { rest = refl; parts = refl; gauges = refl; gauge-total = refl; size-total = refl };
-      same = let e : count - 0 ≡ count = omega arith in ap (λ (n : ℕ). entries n (start file)) e;
+      same = let e : count - 0 ≡ count = omega arith in ap (λ (n : ℕ). entries rules n (start file)) e;
     }
 
 -- One turn, whose step is r.
-module _ (file : List ℕ) (count : ℕ) (c : Cursor) (i : ℕ) (r : Step) (k : Reading file count c i) (more : i < count) (does : Does entry file c r) where
-  steps : next (entry (k .state)) (entries (count - (i + 1))) ≡ entries count (start file)
+module _ (rules : Rules) (file : List ℕ) (count : ℕ) (c : Cursor) (i : ℕ) (r : Step) (k : Reading rules file count c i) (more : i < count) (does : Does (entry rules) file c r) where
+  steps : next (entry rules (k .state)) (entries rules (count - (i + 1))) ≡ entries rules count (start file)
   unfolding entries
   steps =
       let e : count - i ≡ suc (count - (i + 1)) = omega arith in
-      subst (λ (n : ℕ). entries n (k .state) ≡ entries count (start file)) e (k .same)
+      subst (λ (n : ℕ). entries rules n (k .state) ≡ entries rules count (start file)) e (k .same)
 
-  said : Follows file (entry (k .state)) r
+  said : Follows file (entry rules (k .state)) r
   unfolding Does
   said = does (k .state) (k .tracks)
 
-  stopped : (a : Answer State) (n : ℕ) → Follows file a (Stop n) → Follows file (next a (entries (count - (i + 1)))) (Stop n)
+  stopped : (a : Answer State) (n : ℕ) → Follows file a (Stop n) → Follows file (next a (entries rules (count - (i + 1)))) (Stop n)
   stopped (refused x) n f = f
   stopped (taken s) n f = absurd f
 
-  pub reading-stop : (n : ℕ) → r ≡ Stop n → Follows file (entries count (start file)) (Stop n)
-  reading-stop n e = rw (← steps) (stopped (entry (k .state)) n (subst (λ (x : Step). Follows file (entry (k .state)) x) e said))
+  pub reading-stop : (n : ℕ) → r ≡ Stop n → Follows file (entries rules count (start file)) (Stop n)
+  reading-stop n e = rw (← steps) (stopped (entry rules (k .state)) n (subst (λ (x : Step). Follows file (entry rules (k .state)) x) e said))
 
-  went : (a : Answer State) (d : Cursor) → Follows file a (Next d) → next a (entries (count - (i + 1))) ≡ entries count (start file) → Reading file count d (i + 1)
+  went : (a : Answer State) (d : Cursor) → Follows file a (Next d) → next a (entries rules (count - (i + 1))) ≡ entries rules count (start file) → Reading rules file count d (i + 1)
   went (refused x) d f e = absurd f
   went (taken s) d f e = record { inside = omega arith; fair = f .0; state = s; tracks = f .1; same = e }
 
-  pub reading-next : (d : Cursor) → r ≡ Next d → Reading file count d (i + 1)
-  reading-next d e = went (entry (k .state)) d (subst (λ (x : Step). Follows file (entry (k .state)) x) e said) steps
+  pub reading-next : (d : Cursor) → r ≡ Next d → Reading rules file count d (i + 1)
+  reading-next d e = went (entry rules (k .state)) d (subst (λ (x : Step). Follows file (entry rules (k .state)) x) e said) steps
 
-pub reading-done : (file : List ℕ) (count : ℕ) (c : Cursor) (i : ℕ) → Reading file count c i → count ≤ i → Follows file (entries count (start file)) (Next c)
+pub reading-done : (rules : Rules) (file : List ℕ) (count : ℕ) (c : Cursor) (i : ℕ) → Reading rules file count c i → count ≤ i → Follows file (entries rules count (start file)) (Next c)
 unfolding entries
-reading-done file count c i k h =
+reading-done rules file count c i k h =
     let none : count - i ≡ 0 = omega arith in
-    let all : taken (k .state) ≡ entries count (start file) = subst (λ (n : ℕ). entries n (k .state) ≡ entries count (start file)) none (k .same) in
+    let all : taken (k .state) ≡ entries rules count (start file) = subst (λ (n : ℕ). entries rules n (k .state) ≡ entries rules count (start file)) none (k .same) in
     subst (λ (a : Answer State). Follows file a (Next c)) all (k .fair, k .tracks)
 
 -- The end: one law for each way out.
@@ -194,36 +199,37 @@ module _ (file : List ℕ) where
   read-header f n e h g =
       let bad = number-refused (header file) n e h in
       refused-face f n (bad .0) g (bad .2)
-      ∙ ap (λ (a : Answer ℕ). summary (next a (λ count. next (entries count (start file)) atEnd))) (sym (bad .1))
+      ∙ ap (λ (a : Answer ℕ). summary (next a (λ count. next (entries (rulesOf file) count (start file)) atEnd))) (sym (bad .1))
 
-  module _ (n k : ℕ) (head : n ≡ number (header file)) (zero-number : n ≡ 0) (count : k ≡ field file 5) where
-    headed : next (entries k (start file)) atEnd ≡ faceOf file
+  pub read-fair : (rules : Rules) (k : ℕ) (r : Step) (c : Cursor) → Follows file (entries rules k (start file)) r → r ≡ Next c → Fair file c
+  read-fair rules k r c follows e = by (entries rules k (start file)) (subst (λ (x : Step). Follows file (entries rules k (start file)) x) e follows)
+    where
+      by : (a : Answer State) → Follows file a (Next c) → Fair file c
+      by (refused x) h = absurd h
+      by (taken s) h = h .0
+
+  module _ (n v k : ℕ) (head : n ≡ number (header file)) (zero-number : n ≡ 0) (version : v ≡ field file 3) (count : k ≡ field file 5) where
+    headed : next (entries (versionRules v) k (start file)) atEnd ≡ faceOf file
     unfolding faceOf
     headed =
         let good = number-taken (header file) (sym head ∙ zero-number) in
         let same = header-taken file (good .0) (good .1) .1 in
-        ap (λ (j : ℕ). next (entries j (start file)) atEnd) (count ∙ same)
-        ∙ ap (λ (a : Answer ℕ). next a (λ j. next (entries j (start file)) atEnd)) (sym (good .1))
+        ap (λ (x : ℕ). next (entries (versionRules x) k (start file)) atEnd) version
+        ∙ ap (λ (j : ℕ). next (entries (rulesOf file) j (start file)) atEnd) (count ∙ same)
+        ∙ ap (λ (a : Answer ℕ). next a (λ j. next (entries (rulesOf file) j (start file)) atEnd)) (sym (good .1))
 
-    pub read-stop : (f : Face) (m : ℕ) (r : Step) → Follows file (entries k (start file)) r → r ≡ Stop m → f ≡ refusedFace m → f ≡ summary (faceOf file)
+    pub read-stop : (f : Face) (m : ℕ) (r : Step) → Follows file (entries (versionRules v) k (start file)) r → r ≡ Stop m → f ≡ refusedFace m → f ≡ summary (faceOf file)
     read-stop f m r follows e g =
-        rw (← headed) (by (entries k (start file)) (subst (λ (x : Step). Follows file (entries k (start file)) x) e follows))
+        rw (← headed) (by (entries (versionRules v) k (start file)) (subst (λ (x : Step). Follows file (entries (versionRules v) k (start file)) x) e follows))
       where
         by : (a : Answer State) → Follows file a (Stop m) → f ≡ summary (next a atEnd)
         by (refused c) h = refused-face f m c g h
         by (taken s) h = absurd h
 
-    pub read-fair : (r : Step) (c : Cursor) → Follows file (entries k (start file)) r → r ≡ Next c → Fair file c
-    read-fair r c follows e = by (entries k (start file)) (subst (λ (x : Step). Follows file (entries k (start file)) x) e follows)
-      where
-        by : (a : Answer State) → Follows file a (Next c) → Fair file c
-        by (refused x) h = absurd h
-        by (taken s) h = h .0
-
-    pub read-next : (f : Face) (r : Step) (c : Cursor) → Follows file (entries k (start file)) r → r ≡ Next c → Ends file c f → f ≡ summary (faceOf file)
+    pub read-next : (f : Face) (r : Step) (c : Cursor) → Follows file (entries (versionRules v) k (start file)) r → r ≡ Next c → Ends file c f → f ≡ summary (faceOf file)
     unfolding Ends
     read-next f r c follows e ends =
-        rw (← headed) (by (entries k (start file)) (subst (λ (x : Step). Follows file (entries k (start file)) x) e follows))
+        rw (← headed) (by (entries (versionRules v) k (start file)) (subst (λ (x : Step). Follows file (entries (versionRules v) k (start file)) x) e follows))
       where
         by : (a : Answer State) → Follows file a (Next c) → f ≡ summary (next a atEnd)
         by (refused x) h = absurd h

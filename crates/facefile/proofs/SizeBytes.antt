@@ -8,6 +8,7 @@ use lib.ListN.{length, getD, take, drop, length-drop}
 use lib.Seq.{take-add, take-length, getD-drop}
 use Rattle.checks.specs.Answer.{taken}
 use Rattle.slicing.specs.Item.{Item}
+use Rattle.sizes.specs.Rules.{Rules}
 use Rattle.sizes.specs.GaugeSizes.{sizeAt, sizesFrom}
 use Rattle.facefile.specs.Gauge.{sizeBytes}
 use Rattle.sizes.specs.inside.Sizes.{sizesIn, Sized}
@@ -70,5 +71,5 @@ stretch-bytes n k from s b sized =
     sym (ap (λ (j : ℕ). take j x) (sym sized) ∙ take-length x)
     ∙ in-bytes n x (bytes-take k (drop from s) (bytes-drop from s b)) (omega arith)
 
-pub sizes-bytes : (count : ℕ) (s : List ℕ) (zs : List Item) → Bytes s → 4 * count ≤ length s → sizesFrom count s ≡ taken zs → take (4 * count) s ≡ sizeBytes zs
-sizes-bytes count s zs b h e = in-bytes count s b h ∙ ap sizeBytes (sym (from-in count s zs e))
+pub sizes-bytes : (rules : Rules) (count : ℕ) (s : List ℕ) (zs : List Item) → Bytes s → 4 * count ≤ length s → sizesFrom rules count s ≡ taken zs → take (4 * count) s ≡ sizeBytes zs
+sizes-bytes rules count s zs b h e = in-bytes count s b h ∙ ap sizeBytes (sym (from-in rules count s zs e))

@@ -14,21 +14,22 @@ use Rattle.checks.proofs.Answers.{not-both, same-taken, ask-taken, next-taken}
 use Rattle.slicing.specs.Tree.{Tree, gaugesOf, gaugeCount, sizeCount}
 use Rattle.slicing.specs.Good.{Good}
 use Rattle.slicing.proofs.Counts.{counted}
+use Rattle.sizes.specs.Rules.{Rules}
 use Rattle.sizes.specs.GaugeSizes.{field, within}
 use Rattle.entries.specs.Entry.{State, entries}
-use Rattle.facefile.specs.Format.{marked, header, start, onePart, atEnd, faceOf}
+use Rattle.facefile.specs.Format.{marked, header, rulesOf, start, onePart, atEnd, faceOf}
 use Rattle.entries.specs.inside.Tracking.{flat}
 use Rattle.entries.specs.inside.Kinds.{Cut, cut-beside, cut-stacked}
 use Rattle.sizes.proofs.SizeChecks.{within-true}
 use Rattle.entries.proofs.Took.{state, Took, took-gauge, took-join, Reads, reads-none, reads-more, entries-read}
-use Rattle.sizes.proofs.GoodSizes.{sizes-good}
+use Rattle.sizes.proofs.GoodSizes.{sizes-taken}
 use Rattle.entries.proofs.Stacks.{join-flat, gauges-join}
 
 -- What a taken header says.
 pub record Headed (s : List ℕ) : Type 0 where
   pub long : 7 ≤ length s
   pub mark : marked s ≡ true
-  pub version : field s 3 ≡ 1
+  pub version : (1 ≤ field s 3) × (field s 3 ≤ 2)
   pub some : 1 ≤ field s 5
   pub most : field s 5 ≤ 127
 
@@ -37,13 +38,13 @@ unfolding header
 header-taken s k e =
     let long = ask-taken (leb 7 (length s)) _ _ k e in
     let mark = ask-taken (marked s) _ _ k (long .1) in
-    let version = ask-taken (eqb (field s 3) 1) _ _ k (mark .1) in
+    let version = ask-taken (within 1 2 (field s 3)) _ _ k (mark .1) in
     let count = ask-taken (within 1 127 (field s 5)) _ _ k (version .1) in
     let range = within-true 1 127 (field s 5) (count .0) in (
       record {
         long = leb-true 7 (length s) (long .0);
         mark = mark .0;
-        version = eqb-true (field s 3) 1 (version .0);
+        version = within-true 1 2 (field s 3) (version .0);
         some = range .0;
         most = range .1;
       },
@@ -54,7 +55,7 @@ header-taken s k e =
 pub record FaceRead (s : List ℕ) (t : Tree) : Type 0 where
   pub headed : Headed s
   pub last : ℕ
-  pub reads : Reads (field s 5) (start s) (state [] (t ∷ []) last)
+  pub reads : Reads (rulesOf s) (field s 5) (start s) (state [] (t ∷ []) last)
 
 no-bytes : (l : List ℕ) → length l ≡ 0 → l ≡ []
 no-bytes [] e = refl
@@ -69,19 +70,19 @@ end-taken (x ∷ []) rest t e =
 end-taken (x ∷ y ∷ parts) rest t e = absurd (not-both _ t e)
 
 -- Entries from any state to the end of a file that means t.
-pub end-read : (k : ℕ) (s : State) (t : Tree) → next (entries k s) atEnd ≡ taken t → (last : ℕ) × Reads k s (state [] (t ∷ []) last)
+pub end-read : (rules : Rules) (k : ℕ) (s : State) (t : Tree) → next (entries rules k s) atEnd ≡ taken t → (last : ℕ) × Reads rules k s (state [] (t ∷ []) last)
 unfolding atEnd
-end-read k s t e =
-    let all = next-taken (entries k s) atEnd t e in
+end-read rules k s t e =
+    let all = next-taken (entries rules k s) atEnd t e in
     let ended = end-taken (all .0 .stack) (all .0 .rest) t (all .2) in
-    (all .0 .gauges, rw (← ended .0, ← ended .1) (entries-read k s (all .0) (all .1)))
+    (all .0 .gauges, rw (← ended .0, ← ended .1) (entries-read rules k s (all .0) (all .1)))
 
 pub face-read : (s : List ℕ) (t : Tree) → faceOf s ≡ taken t → FaceRead s t
 unfolding faceOf
 face-read s t e =
-    let head = next-taken (header s) (λ count. next (entries count (start s)) atEnd) t e in
+    let head = next-taken (header s) (λ count. next (entries (rulesOf s) count (start s)) atEnd) t e in
     let first = header-taken s (head .0) (head .1) in
-    let rest = end-read (head .0) (start s) t (head .2) in
+    let rest = end-read (rulesOf s) (head .0) (start s) t (head .2) in
     record { headed = first .0; last = rest .0; reads = rw (first .1) (rest .1) }
 
 abbrev pub GoodParts : List Tree → Type 0
@@ -99,10 +100,10 @@ good-cut : (kind : ℕ) (cut : Tree → Tree → Tree) (a b : Tree) → Cut kind
 good-cut kind cut a b cut-beside x y = (x, y)
 good-cut kind cut a b cut-stacked x y = (x, y)
 
-pub took-sound : (k : ℕ) (s t : State) → Sound k s → Took s t → Sound (suc k) t
+pub took-sound : {rules : Rules} (k : ℕ) (s t : State) → Sound k s → Took rules s t → Sound (suc k) t
 took-sound k s t h (took-gauge count bytes parts g z few some most present sized) =
     record {
-      good = (sizes-good count bytes z some most sized .0, h .good);
+      good = (sizes-taken _ count bytes z some most sized .good, h .good);
       counted = length-append (flat gaugesOf parts) (z ∷ []) ∙ ap (λ (n : ℕ). n + 1) (h .counted);
       few = omega arith;
       balance = let b = h .balance in omega arith;
@@ -115,7 +116,7 @@ took-sound k s t h (took-join kind cut bytes a b parts g c) =
       balance = let b = h .balance in omega arith;
     }
 
-pub reads-sound : (j k : ℕ) (s t : State) → Sound j s → Reads k s t → Sound (k + j) t
+pub reads-sound : {rules : Rules} (j k : ℕ) (s t : State) → Sound j s → Reads rules k s t → Sound (k + j) t
 reads-sound j k s t h (reads-none x) = rw zero-add h
 reads-sound j k s t h (reads-more i x u y first rest) =
     let more = reads-sound (suc j) i u t (took-sound j s u h first) rest in

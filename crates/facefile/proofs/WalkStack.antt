@@ -11,7 +11,7 @@ use Rattle.slicing.specs.Tree.{Tree, gauge, gaugesOf, sizesOf, gaugeCount, size
 use Rattle.slicing.specs.Good.{Good}
 use Rattle.slicing.proofs.Depths.{depth-few}
 use Rattle.facefile.specs.declared.walk.GaugeEntry.{GaugeEntry}
-use Rattle.facefile.specs.Format.{start, faceOf}
+use Rattle.facefile.specs.Format.{rulesOf, start, faceOf}
 use Rattle.sizes.specs.inside.Sizes.{sizesIn}
 use Rattle.entries.specs.inside.Tracking.{flat}
 use Rattle.facefile.specs.inside.Walk.{firstEntry, stateAt, Walk, sizeBytesOf, GaugeAt, JoinAt}
@@ -30,7 +30,7 @@ module _ (file : List ℕ) (face : Tree) (at : ℕ) (stack : List Tree) (w : Wal
   sound : Sound (w .done + 0) (stateAt file at stack (w .gauges))
   sound =
       reads-sound 0 (w .done) (start file) (stateAt file at stack (w .gauges)) (start-sound file)
-      (entries-read (w .done) (start file) (stateAt file at stack (w .gauges)) (w .read))
+      (entries-read (rulesOf file) (w .done) (start file) (stateAt file at stack (w .gauges)) (w .read))
 
   pub walk-good : GoodParts stack
   walk-good = sound .good

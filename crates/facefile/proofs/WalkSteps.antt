@@ -9,11 +9,13 @@ use Rattle.checks.specs.Answer.{Answer, taken, next}
 use Rattle.checks.proofs.Answers.{same-taken, next-taken}
 use Rattle.slicing.specs.Item.{Item}
 use Rattle.slicing.specs.Tree.{Tree, gauge}
+use Rattle.slicing.specs.Good.{Ordered}
+use Rattle.sizes.specs.Rules.{Rules}
 use Rattle.facefile.specs.declared.walk.GaugeEntry.{GaugeEntry}
 use Rattle.facefile.specs.declared.walk.Entry.{Entry}
 use Rattle.facefile.specs.declared.walk.Entry.the-variants.{Gauge, Join}
 use Rattle.entries.specs.Entry.{State, entry, entries}
-use Rattle.facefile.specs.Format.{start, atEnd, faceOf, header}
+use Rattle.facefile.specs.Format.{rulesOf, start, atEnd, faceOf, header}
 use Rattle.sizes.specs.inside.Sizes.{sizesIn}
 use Rattle.facefile.specs.inside.Walk.{firstEntry, stateAt, Walk, sizeBytesOf, GaugeAt, JoinAt, EntryAt, Finds}
 use Rattle.entries.proofs.Took.{state, Took, took-gauge, took-join, entry-took, Reads, reads-none, reads-more}
@@ -23,7 +25,7 @@ use Rattle.facefile.proofs.EntryBytes.{left-at, gaugeEntryAt, gauge-rea
 pub walk-start : (file : List ℕ) (t : Tree) → faceOf file ≡ taken t → Walk file t firstEntry []
 unfolding faceOf entries
 walk-start file t e =
-    let head = next-taken (header file) (λ count. next (entries count (start file)) atEnd) t e in
+    let head = next-taken (header file) (λ count. next (entries (rulesOf file) count (start file)) atEnd) t e in
     record {
       taken-file = e;
       inside = header-taken file (head .0) (head .1) .0 .long;
@@ -35,27 +37,28 @@ walk-start file t e =
     }
 
 -- One entry more after a run of entries.
-entries-more : (k : ℕ) (s t u : State) → entries k s ≡ taken t → entry t ≡ taken u → entries (suc k) s ≡ taken u
+entries-more : (rules : Rules) (k : ℕ) (s t u : State) → entries rules k s ≡ taken t → entry rules t ≡ taken u → entries rules (suc k) s ≡ taken u
 unfolding entries
-entries-more zero s t u e f =
-    ap (λ (x : State). next (entry x) (entries zero)) (same-taken s t e) ∙ ap (λ (a : Answer State). next a (entries zero)) f
-entries-more (suc k) s t u e f =
-    let first = next-taken (entry s) (entries k) t e in
-    ap (λ (a : Answer State). next a (entries (suc k))) (first .1) ∙ entries-more k (first .0) t u (first .2) f
+entries-more rules zero s t u e f =
+    ap (λ (x : State). next (entry rules x) (entries rules zero)) (same-taken s t e)
+    ∙ ap (λ (a : Answer State). next a (entries rules zero)) f
+entries-more rules (suc k) s t u e f =
+    let first = next-taken (entry rules s) (entries rules k) t e in
+    ap (λ (a : Answer State). next a (entries rules (suc k))) (first .1) ∙ entries-more rules k (first .0) t u (first .2) f
 
 -- The next entry is taken, and what is left after it gives the face.
-record Taking (face : Tree) (s : State) : Type 0 where
+record Taking (rules : Rules) (face : Tree) (s : State) : Type 0 where
   after : State
-  takes : entry s ≡ taken after
+  takes : entry rules s ≡ taken after
   left : ℕ
-  gives : next (entries left after) atEnd ≡ taken face
+  gives : next (entries rules left after) atEnd ≡ taken face
 
-taking : (k : ℕ) (face : Tree) (s : State) → next (entries k s) atEnd ≡ taken face → (s .rest ≡ [] → ⊥) → Taking face s
+taking : (rules : Rules) (k : ℕ) (face : Tree) (s : State) → next (entries rules k s) atEnd ≡ taken face → (s .rest ≡ [] → ⊥) → Taking rules face s
 unfolding entries atEnd
-taking zero face s e some = absurd (some (end-taken (s .stack) (s .rest) face e .1))
-taking (suc k) face s e some =
-    let all = next-taken (next (entry s) (entries k)) atEnd face e in
-    let first = next-taken (entry s) (entries k) (all .0) (all .1) in
+taking rules zero face s e some = absurd (some (end-taken (s .stack) (s .rest) face e .1))
+taking rules (suc k) face s e some =
+    let all = next-taken (next (entry rules s) (entries rules k)) atEnd face e in
+    let first = next-taken (entry rules s) (entries rules k) (all .0) (all .1) in
     record {
       after = first .0;
       takes = first .1;
@@ -69,12 +72,12 @@ module _ (file : List ℕ) (face : Tree) (at : ℕ) (stack : List Tree) (w : Wal
   here = stateAt file at stack (w .gauges)
 
   module _ (more : at < length file) where
-    taken-here : Taking face here
+    taken-here : Taking (rulesOf file) face here
     taken-here =
-        taking (w .left) face here (w .gives) (λ e. let long = left-at file at [] e in absurd (omega arith))
+        taking (rulesOf file) (w .left) face here (w .gives) (λ e. let long = left-at file at [] e in absurd (omega arith))
 
-    took-here : Took here (taken-here .after)
-    took-here = entry-took (drop at file) stack (w .gauges) (taken-here .after) (taken-here .takes)
+    took-here : Took (rulesOf file) here (taken-here .after)
+    took-here = entry-took (rulesOf file) (drop at file) stack (w .gauges) (taken-here .after) (taken-here .takes)
 
     walk-behind : (place : ℕ) (parts : List Tree) (g : ℕ) → taken-here .after ≡ stateAt file place parts g → place ≤ length file → Walk file face place parts
     walk-behind place parts g e inside =
@@ -83,9 +86,9 @@ module _ (file : List ℕ) (face : Tree) (at : ℕ) (stack : List Tree) (w : Wal
           inside = inside;
           gauges = g;
           done = suc (w .done);
-          read = entries-more (w .done) (start file) here (stateAt file place parts g) (w .read) (taken-here .takes ∙ ap taken e);
+          read = entries-more (rulesOf file) (w .done) (start file) here (stateAt file place parts g) (w .read) (taken-here .takes ∙ ap taken e);
           left = taken-here .left;
-          gives = subst (λ (s : State). next (entries (taken-here .left) s) atEnd ≡ taken face) e (taken-here .gives);
+          gives = subst (λ (s : State). next (entries (rulesOf file) (taken-here .left) s) atEnd ≡ taken face) e (taken-here .gives);
         }
 
     gauge-here : (n : ℕ) → getD file at 0 ≡ 0x01 → n ≡ getD file (at + 1) 0 → GaugeAt file face at stack (gaugeEntryAt at n)
@@ -95,7 +98,9 @@ module _ (file : List ℕ) (face : Tree) (at : ℕ) (stack : List Tree) (w : Wal
           upward = omega arith;
           inside = r .fits;
           sized = bytes-long file (at + 2) n (r .fits);
+          some = r .some;
           few = r .few;
+          order = λ asked. subst Ordered (bytes-sizes file (at + 2) n (r .fits)) (r .order asked);
           further = omega arith;
           walk =
               walk-behind (at + 2 + 4 * n) (gauge (sizesIn n (sizeBytesOf file (gaugeEntryAt at n))) ∷ stack) (w .gauges + 1)
@@ -119,8 +124,8 @@ module _ (file : List ℕ) (face : Tree) (at : ℕ) (stack : List Tree) (w : Wal
         }
 
   -- The entries that are left.
-  pub walk-reads : (last : ℕ) × Reads (w .left) here (state [] (face ∷ []) last)
-  walk-reads = end-read (w .left) here face (w .gives)
+  pub walk-reads : (last : ℕ) × Reads (rulesOf file) (w .left) here (state [] (face ∷ []) last)
+  walk-reads = end-read (rulesOf file) (w .left) here face (w .gives)
 
 -- What the bytes at a place say is what every walk finds there.
 module _ (file : List ℕ) (at : ℕ) where
@@ -161,11 +166,11 @@ module _ (file : List ℕ) (face : Tree) (at : ℕ) (stack : List Tree) (w : Wal
   pub join-less : (kind behind : ℕ) → r ≡ Join kind behind → at < length file → length file - behind < length file - at
   join-less kind behind e more = let further = found-join kind behind e .further in omega arith
 
-no-took : (s u : State) → Took s u → s .rest ≡ [] → ⊥
+no-took : {rules : Rules} (s u : State) → Took rules s u → s .rest ≡ [] → ⊥
 no-took s u (took-gauge count bytes parts g z few some most present sized) e = cons≢nil e
 no-took s u (took-join kind cut bytes a b parts g c) e = cons≢nil e
 
-no-entry : (k : ℕ) (s f : State) → Reads k s f → s .rest ≡ [] → s .stack ≡ f .stack
+no-entry : {rules : Rules} (k : ℕ) (s f : State) → Reads rules k s f → s .rest ≡ [] → s .stack ≡ f .stack
 no-entry k s f (reads-none x) e = refl
 no-entry k s f (reads-more j x u y first rest) e = absurd (no-took s u first e)
 

@@ -7,6 +7,7 @@ use lib.ListN.{length, drop, take-append-drop}
 use Rattle.checks.specs.Answer.{taken}
 use Rattle.slicing.specs.Item.{Item}
 use Rattle.slicing.specs.Tree.{Tree, gauge, beside, stacked}
+use Rattle.sizes.specs.Rules.{Rules}
 use Rattle.sizes.specs.GaugeSizes.{field, sizesFrom}
 use Rattle.entries.specs.Entry.{State}
 use Rattle.facefile.specs.Format.{start, faceOf}
@@ -14,7 +15,7 @@ use Rattle.facefile.specs.Gauge.{sizeBytes}
 use Rattle.entries.specs.inside.Tracking.{flat}
 use Rattle.entries.specs.inside.Kinds.{Cut, cut-beside, cut-stacked}
 use Rattle.entries.proofs.Took.{state, Took, took-gauge, took-join, Reads, reads-none, reads-more}
-use Rattle.sizes.proofs.GoodSizes.{sizes-good}
+use Rattle.sizes.proofs.GoodSizes.{sizes-taken}
 use Rattle.facefile.proofs.SizeBytes.{Bytes, bytes-drop, sizes-bytes}
 use Rattle.facefile.proofs.Taken.{face-read}
 
@@ -35,16 +36,16 @@ written-cut kind cut a b cut-stacked = refl
 bytes-tail : (x : ℕ) (l : List ℕ) → Bytes (x ∷ l) → Bytes l
 bytes-tail x l b i = b (suc i)
 
-gauge-bytes : (count : ℕ) (bytes : List ℕ) (z : List Item) → Bytes bytes → 1 ≤ count → count ≤ 8 → 4 * count ≤ length bytes → sizesFrom count bytes ≡ taken z → written (gauge z) ++ drop (4 * count) bytes ≡ 0x01 ∷ count ∷ bytes
-gauge-bytes count bytes z b some most present sized =
-    rw (sizes-good count bytes z some most sized .1, ← sizes-bytes count bytes z b present sized)
+gauge-bytes : (rules : Rules) (count : ℕ) (bytes : List ℕ) (z : List Item) → Bytes bytes → 1 ≤ count → count ≤ 8 → 4 * count ≤ length bytes → sizesFrom rules count bytes ≡ taken z → written (gauge z) ++ drop (4 * count) bytes ≡ 0x01 ∷ count ∷ bytes
+gauge-bytes rules count bytes z b some most present sized =
+    rw (sizes-taken rules count bytes z some most sized .as-many, ← sizes-bytes rules count bytes z b present sized)
     (ap (λ (l : List ℕ). 0x01 ∷ count ∷ l) (take-append-drop (4 * count) bytes))
 
-took-whole : (s t : State) → Took s t → Bytes (s .rest) → (whole t ≡ whole s) × Bytes (t .rest)
+took-whole : {rules : Rules} (s t : State) → Took rules s t → Bytes (s .rest) → (whole t ≡ whole s) × Bytes (t .rest)
 took-whole s t (took-gauge count bytes parts g z few some most present sized) b =
     let rest = bytes-tail count bytes (bytes-tail 0x01 (count ∷ bytes) b) in (
       append-assoc (flat written parts) (written (gauge z)) (drop (4 * count) bytes)
-          ∙ ap (λ (l : List ℕ). flat written parts ++ l) (gauge-bytes count bytes z rest some most present sized),
+          ∙ ap (λ (l : List ℕ). flat written parts ++ l) (gauge-bytes _ count bytes z rest some most present sized),
       bytes-drop (4 * count) bytes rest,
     )
 took-whole s t (took-join kind cut bytes x y parts g c) b = (
@@ -52,7 +53,7 @@ took-whole s t (took-join kind cut bytes x y parts g c) b = (
   bytes-tail kind bytes b,
 )
 
-reads-whole : (k : ℕ) (s t : State) → Reads k s t → Bytes (s .rest) → whole t ≡ whole s
+reads-whole : {rules : Rules} (k : ℕ) (s t : State) → Reads rules k s t → Bytes (s .rest) → whole t ≡ whole s
 reads-whole k s t (reads-none x) b = refl
 reads-whole k s t (reads-more j x u y first rest) b =
     let one = took-whole s u first b in

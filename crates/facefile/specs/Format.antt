@@ -1,4 +1,4 @@
--- Document 01, "The face file" and "The checks, as questions", up to check 13: any bytes, taken to the slicing tree that they mean, or refused with the first check that they fail.
+-- Document 01, "The face file" and "The checks, as questions", up to check 13, with document 02's versions: any bytes, taken to the slicing tree that they mean, or refused with the first check that they fail.
 use mathlib.Core.Bool.{Bool, _&&_}
 use mathlib.Core.List.{List, [], _∷_}
 use Prim.Native.Nat.{ℕ}
@@ -7,6 +7,7 @@ use lib.Dec.{leb, eqb}
 use Rattle.checks.specs.Check.{Length, Mark, Version, Entries, OnePart, AtEnd}
 use Rattle.checks.specs.Answer.{Answer, refused, taken, ask, next}
 use Rattle.slicing.specs.Tree.{Tree}
+use Rattle.sizes.specs.Rules.{Rules, versionRules}
 use Rattle.sizes.specs.GaugeSizes.{field, within}
 use Rattle.entries.specs.Entry.{State, entries}
 
@@ -14,14 +15,18 @@ use Rattle.entries.specs.Entry.{State, entries}
 abbrev pub marked : List ℕ → Bool
 marked s = eqb (getD s 0 0) 0x46 && (eqb (getD s 1 0) 0x43 && eqb (getD s 2 0) 0x45)
 
--- 7 bytes or more? 1. First three `FCE`? 2. Version 1? 3. Entries 1 to 127? 4. What is taken is the number of entries.
+-- 7 bytes or more? 1. First three `FCE`? 2. Version? 3: "Check 3 takes 1 and 2". Entries 1 to 127? 4. What is taken is the number of entries.
 unfoldable pub header : List ℕ → Answer ℕ
 header s =
     ask (leb 7 (length s)) Length
     (ask (marked s) Mark
-    (ask (eqb (field s 3) 1) Version
+    (ask (within 1 2 (field s 3)) Version
     (ask (within 1 127 (field s 5)) Entries
     (taken (field s 5)))))
+
+-- The rules of the file's version.
+abbrev pub rulesOf : List ℕ → Rules
+rulesOf s = versionRules (field s 3)
 
 -- Before the first entry: all bytes after the first seven, no part, no gauge.
 abbrev pub start : List ℕ → State
@@ -38,4 +43,4 @@ atEnd s = onePart (s .stack) (s .rest)
 
 -- A face file: the header, the entries, the end.
 unfoldable pub faceOf : List ℕ → Answer Tree
-faceOf s = next (header s) (λ count. next (entries count (start s)) atEnd)
+faceOf s = next (header s) (λ count. next (entries (rulesOf s) count (start s)) atEnd)

@@ -4,6 +4,7 @@ ghost use Prim.Native.Nat.{_≤_};
 ghost use lib.ListN.{length};
 ghost use Rattle.checks.specs.Answer.{number};
 ghost use Rattle.entries.specs.Entry.{entries};
+ghost use Rattle.sizes.specs.Rules.{versionRules};
 ghost use Rattle.facefile.specs.Format.{header, start, faceOf};
 ghost use Rattle.facefile.specs.Summary.{refusedFace, summary};
 ghost use Rattle.entries.specs.inside.Tracking.{Fair, Follows};
@@ -26,7 +27,8 @@ fn header_number(file: &[u8]) -> u32
     if !check::same(&file[0..3], b"FCE") {
         return checks::MARK;
     }
-    if field(file, 3) != 1 {
+    let version = field(file, 3);
+    if !is_within(1, 2, version) {
         return checks::VERSION;
     }
     let entries = field(file, 5);
@@ -37,9 +39,9 @@ fn header_number(file: &[u8]) -> u32
 }
 
 // The entries in turn: the number of the first check that fails, or the cursor after the last.
-fn read_entries(file: &[u8], count: usize) -> Step
+fn read_entries(file: &[u8], version: u32, count: usize) -> Step
     requires { ⌜ 7 ≤ length (now file) ⌝ }
-    ensures { λ r. ⌜ Follows (now (file .entry)) (entries count (start (now (file .entry)))) r ⌝ }
+    ensures { λ r. ⌜ Follows (now (file .entry)) (entries (versionRules version) count (start (now (file .entry)))) r ⌝ }
 {
     let mut c = Cursor {
         at: FIRST_ENTRY,
@@ -49,7 +51,7 @@ fn read_entries(file: &[u8], count: usize) -> Step
     };
     let mut i = 0;
     while i < count {
-        match read_entry(file, c) {
+        match read_entry(file, version, c) {
             Step::Stop(number) => return Step::Stop(number),
             Step::Next(after) => c = after,
         }
@@ -94,8 +96,9 @@ pub fn read(file: &[u8]) -> Face
     if number != checks::TAKEN {
         return refused(number);
     }
+    let version = field(file, 3);
     let count = field(file, 5);
-    match read_entries(file, count as usize) {
+    match read_entries(file, version, count as usize) {
         Step::Stop(number) => refused(number),
         Step::Next(c) => read_end(file, c),
     }

@@ -1,11 +1,14 @@
 // A walk over the entries of a taken file, for the calls that read it again once it is known to be taken.
 ghost use mathlib.Core.Path.{_≡_};
-ghost use Prim.Native.Nat.{_<_};
+ghost use Prim.Native.Nat.{_<_, _≤_};
 ghost use mathlib.Core.List.{List};
 ghost use lib.ListN.{length};
 ghost use Rattle.slicing.specs.Tree.{Tree};
+ghost use Rattle.sizes.specs.Rules.{asksOrder};
+ghost use Rattle.facefile.specs.Format.{rulesOf};
 ghost use Rattle.facefile.specs.inside.Walk.{Walk, Finds};
 use entries::GAUGE;
+use sizes::field::field;
 
 // Where the first entry begins.
 pub const FIRST_ENTRY: usize = 7;
@@ -29,6 +32,14 @@ fn wide(x: u8) -> usize
     ensures { λ r. ⌜ (r ≡ x) × (r < 256) ⌝ }
 {
     x as usize
+}
+
+// Whether the sizes of every gauge of a taken file stand in order, since check 9 asked it of them.
+pub fn asks_order(file: &[u8]) -> bool
+    requires { ⌜ 7 ≤ length (now file) ⌝ }
+    ensures { λ r. ⌜ r ≡ asksOrder (rulesOf (now (file .entry))) ⌝ }
+{
+    field(file, 3) == 1
 }
 
 // The entry at a place where a walk stands, before the end of the file.

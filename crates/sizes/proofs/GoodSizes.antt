@@ -1,7 +1,7 @@
--- The sizes that a gauge's questions take: as many as its count says, within the limits and strictly ordered, and with the very bytes that were read.
+-- The sizes that a gauge's questions take: as many as its count says and within the limits; and, where check 9 is asked, strictly ordered.
 -- Each size passed check 8 and, after the first, check 9 against the size before it, so its order against all earlier ones follows by steps.
-use mathlib.Core.Path.{_≡_, refl, ap}
-use mathlib.Core.Bool.{true, and-eq-true-iff}
+use mathlib.Core.Path.{_≡_, refl, sym, ap, _∙_}
+use mathlib.Core.Bool.{Bool, true, cond, and-eq-true-iff}
 use mathlib.Core.List.{List, [], _∷_, List·Memᴰ, List·Memᴰ·not-nil, List·Memᴰ·cases-cons}
 use mathlib.Core.Logic.{⊎-elim}
 use Prim.Native.Nat.{ℕ, zero, suc, _≤_, _<_}
@@ -13,7 +13,8 @@ use Rattle.checks.specs.Answer.{taken}
 use Rattle.checks.proofs.Answers.{same-taken, ask-taken, next-taken}
 use Rattle.slicing.specs.Item.{Item, height, width}
 use Rattle.slicing.specs.Good.{Limited, Ordered, GoodGauge}
-use Rattle.sizes.specs.GaugeSizes.{within, sizeAt, limited, ordered, sizesAfter, sizesFrom}
+use Rattle.sizes.specs.Rules.{Rules, asksOrder}
+use Rattle.sizes.specs.GaugeSizes.{within, sizeAt, limited, ordered, inOrder, sizesAfter, sizesFrom}
 use Rattle.sizes.proofs.SizeChecks.{within-true}
 
 limited-true : (z : Item) → limited z ≡ true → Limited z
@@ -33,22 +34,6 @@ ordered-true y z e =
     let both = and-eq-true-iff (ltb (height z) (height y)) (ltb (width y) (width z)) .0 e in
     record { lower = ltb-true (height z) (height y) (both .0); wider = ltb-true (width y) (width z) (both .1) }
 
--- What is known of the sizes after y.
-record Rest (y : Item) (k : ℕ) (zs : List Item) : Type 0 where
-  count : length zs ≡ k
-  limits : (z : Item) → List·Memᴰ z zs → Limited z
-  after : (z : Item) → List·Memᴰ z zs → After y z
-  order : Ordered zs
-
-rest-none : (y : Item) → Rest y zero []
-rest-none y =
-    record {
-      count = refl;
-      limits = λ z i. absurd (List·Memᴰ·not-nil i);
-      after = λ z i. absurd (List·Memᴰ·not-nil i);
-      order = tt;
-    }
-
 limits-more : (x : Item) (zs : List Item) → Limited x → ((z : Item) → List·Memᴰ z zs → Limited z) → (z : Item) → List·Memᴰ z (x ∷ zs) → Limited z
 limits-more x zs h k z i = ⊎-elim (λ (e : z ≡ x). rw e h) (λ (j : List·Memᴰ z zs). k z j) (List·Memᴰ·cases-cons i)
 
@@ -61,42 +46,66 @@ after-more y x zs h k z i =
 ordered-more : (x : Item) (zs : List Item) → ((z : Item) → List·Memᴰ z zs → After x z) → Ordered zs → Ordered (x ∷ zs)
 ordered-more x zs k o = (λ z i. (k z i .lower, k z i .wider), o)
 
-rest-more : (y x : Item) (k : ℕ) (zs : List Item) → Limited x → After y x → Rest x k zs → Rest y (suc k) (x ∷ zs)
-rest-more y x k zs l a r =
+-- What is known of the sizes after y.
+record Rest (rules : Rules) (y : Item) (k : ℕ) (zs : List Item) : Type 0 where
+  count : length zs ≡ k
+  limits : (z : Item) → List·Memᴰ z zs → Limited z
+  after : asksOrder rules ≡ true → (z : Item) → List·Memᴰ z zs → After y z
+  order : asksOrder rules ≡ true → Ordered zs
+
+rest-none : (rules : Rules) (y : Item) → Rest rules y zero []
+rest-none rules y =
+    record {
+      count = refl;
+      limits = λ z i. absurd (List·Memᴰ·not-nil i);
+      after = λ asked z i. absurd (List·Memᴰ·not-nil i);
+      order = λ asked. tt;
+    }
+
+rest-more : (rules : Rules) (y x : Item) (k : ℕ) (zs : List Item) → Limited x → (asksOrder rules ≡ true → After y x) → Rest rules x k zs → Rest rules y (suc k) (x ∷ zs)
+rest-more rules y x k zs l a r =
     record {
       count = ap suc (r .count);
       limits = limits-more x zs l (r .limits);
-      after = after-more y x zs a (r .after);
-      order = ordered-more x zs (r .after) (r .order);
+      after = λ asked. after-more y x zs (a asked) (r .after asked);
+      order = λ asked. ordered-more x zs (r .after asked) (r .order asked);
     }
 
-after-taken : (y : Item) (k : ℕ) (bytes : List ℕ) (zs : List Item) → sizesAfter y k bytes ≡ taken zs → Rest y k zs
+asked-true : (rules : Rules) (y z : Item) → inOrder rules y z ≡ true → asksOrder rules ≡ true → After y z
+asked-true rules y z e asked =
+    ordered-true y z (ap (λ (b : Bool). cond b (ordered y z) true) (sym asked) ∙ e)
+
+after-taken : (rules : Rules) (y : Item) (k : ℕ) (bytes : List ℕ) (zs : List Item) → sizesAfter rules y k bytes ≡ taken zs → Rest rules y k zs
 unfolding sizesAfter
-after-taken y zero bytes zs e = rw (← same-taken [] zs e) (rest-none y)
-after-taken y (suc k) bytes zs e =
+after-taken rules y zero bytes zs e = rw (← same-taken [] zs e) (rest-none rules y)
+after-taken rules y (suc k) bytes zs e =
     let limits = ask-taken (limited (sizeAt bytes)) _ _ zs e in
-    let order = ask-taken (ordered y (sizeAt bytes)) _ _ zs (limits .1) in
-    let more = next-taken (sizesAfter (sizeAt bytes) k (drop 4 bytes)) (λ xs. taken (sizeAt bytes ∷ xs)) zs (order .1) in
+    let order = ask-taken (inOrder rules y (sizeAt bytes)) _ _ zs (limits .1) in
+    let more = next-taken (sizesAfter rules (sizeAt bytes) k (drop 4 bytes)) (λ xs. taken (sizeAt bytes ∷ xs)) zs (order .1) in
     rw (← same-taken (sizeAt bytes ∷ more .0) zs (more .2))
-    (rest-more y (sizeAt bytes) k (more .0) (limited-true (sizeAt bytes) (limits .0))
-    (ordered-true y (sizeAt bytes) (order .0)) (after-taken (sizeAt bytes) k (drop 4 bytes) (more .0) (more .1)))
+    (rest-more rules y (sizeAt bytes) k (more .0) (limited-true (sizeAt bytes) (limits .0))
+    (asked-true rules y (sizeAt bytes) (order .0)) (after-taken rules (sizeAt bytes) k (drop 4 bytes) (more .0) (more .1)))
 
-good-more : (x : Item) (k : ℕ) (zs : List Item) → suc k ≤ 8 → Limited x → Rest x k zs → GoodGauge (x ∷ zs)
-good-more x k zs few l r =
+-- A gauge that is taken is good, has as many sizes as its count says, and has them in order where that is asked.
+pub record TakenSizes (rules : Rules) (count : ℕ) (zs : List Item) : Type 0 where
+  pub good : GoodGauge zs
+  pub as-many : length zs ≡ count
+  pub order : asksOrder rules ≡ true → Ordered zs
+
+taken-more : (rules : Rules) (x : Item) (k : ℕ) (zs : List Item) → suc k ≤ 8 → Limited x → Rest rules x k zs → TakenSizes rules (suc k) (x ∷ zs)
+taken-more rules x k zs few l r =
     record {
-      some = omega arith;
-      few = let n = r .count in omega arith;
-      limited = limits-more x zs l (r .limits);
-      ordered = ordered-more x zs (r .after) (r .order);
+      good = record { some = omega arith; few = (let n = r .count in omega arith); limited = limits-more x zs l (r .limits) };
+      as-many = ap suc (r .count);
+      order = λ asked. ordered-more x zs (r .after asked) (r .order asked);
     }
 
--- A gauge that is taken is good, and has as many sizes as its count says.
-pub sizes-good : (count : ℕ) (bytes : List ℕ) (zs : List Item) → 1 ≤ count → count ≤ 8 → sizesFrom count bytes ≡ taken zs → GoodGauge zs × (length zs ≡ count)
+pub sizes-taken : (rules : Rules) (count : ℕ) (bytes : List ℕ) (zs : List Item) → 1 ≤ count → count ≤ 8 → sizesFrom rules count bytes ≡ taken zs → TakenSizes rules count zs
 unfolding sizesFrom
-sizes-good zero bytes zs some few e = absurd (omega arith)
-sizes-good (suc k) bytes zs some few e =
+sizes-taken rules zero bytes zs some few e = absurd (omega arith)
+sizes-taken rules (suc k) bytes zs some few e =
     let limits = ask-taken (limited (sizeAt bytes)) _ _ zs e in
-    let more = next-taken (sizesAfter (sizeAt bytes) k (drop 4 bytes)) (λ xs. taken (sizeAt bytes ∷ xs)) zs (limits .1) in
-    let rest = after-taken (sizeAt bytes) k (drop 4 bytes) (more .0) (more .1) in
+    let more = next-taken (sizesAfter rules (sizeAt bytes) k (drop 4 bytes)) (λ xs. taken (sizeAt bytes ∷ xs)) zs (limits .1) in
+    let rest = after-taken rules (sizeAt bytes) k (drop 4 bytes) (more .0) (more .1) in
     rw (← same-taken (sizeAt bytes ∷ more .0) zs (more .2))
-    (good-more (sizeAt bytes) k (more .0) few (limited-true (sizeAt bytes) (limits .0)) rest, ap suc (rest .count))
+    (taken-more rules (sizeAt bytes) k (more .0) few (limited-true (sizeAt bytes) (limits .0)) rest)

@@ -6,14 +6,15 @@ use mathlib.Core.List.{List, _∷_}
 use Prim.Native.Nat.{ℕ, zero, suc, _+_, _-_, _*_, _≤_, _<_}
 use native.Mathlib.Omega.{arith}
 use lib.ListN.{getD, drop}
-use lib.Dec.{leb, ltb}
-use borrow.Author.Tests.{le-leb, lt-leb, lt-ltb, le-ltb, leb-true}
+use lib.Dec.{leb, ltb, eqb}
+use borrow.Author.Tests.{le-leb, lt-leb, lt-ltb, le-ltb, leb-true, eq-eqb, ne-eqb}
 use lib.Seq.{drop-drop, getD-drop}
 use Rattle.checks.specs.Check.{Limits, Order}
 use Rattle.checks.specs.Answer.{Answer, refused, taken, ask, next, number}
 use Rattle.slicing.specs.Item.{Item, size}
 use Rattle.sizes.specs.inside.Sizes.{sizeNumber}
-use Rattle.sizes.specs.GaugeSizes.{field, within, limited, ordered, sizeAt, sizesAfter, sizesFrom}
+use Rattle.sizes.specs.Rules.{Rules, versionRules}
+use Rattle.sizes.specs.GaugeSizes.{field, within, limited, ordered, inOrder, sizeAt, sizesAfter, sizesFrom}
 
 -- Answers of `a && b`: where a holds it is b, and where it does not it is a.
 pub within-yes : (low high x : ℕ) → low ≤ x → leb x high ≡ within low high x
@@ -32,6 +33,13 @@ ordered-yes h w k v p = simp (lt-ltb k h p)
 
 pub ordered-no : (h w k v : ℕ) → h ≤ k → ltb k h ≡ ordered (size h w) (size k v)
 ordered-no h w k v p = simp (le-ltb k h p)
+
+-- Answers of `a || b`: where a holds it is a, and where it does not it is b.
+pub order-asked : (v : ℕ) (y z : Item) (o : Bool) → v ≡ 1 → o ≡ ordered y z → o ≡ inOrder (versionRules v) y z
+order-asked v y z o one e = simp (eq-eqb v 1 one) e
+
+pub order-not-asked : (v : ℕ) (y z : Item) → (v ≡ 1 → ⊥) → not (eqb v 1) ≡ inOrder (versionRules v) y z
+order-not-asked v y z other = simp (ne-eqb v 1 other)
 
 pub limited-yes : (h w : ℕ) (a b : Bool) → a ≡ within 1 1_000 h → a ≡ true → b ≡ within 1 1_000 w → b ≡ limited (size h w)
 limited-yes h w a b p q r = rw (← p, q, r)
@@ -56,10 +64,10 @@ number-next (refused c) f = refl
 number-next (taken x) f = refl
 
 -- The number of checks 8 and 9 on all sizes at `at` is that of the `count - i` sizes from size i on, after the size before.
-pub record Checked (s : List ℕ) (at count : ℕ) (y : Item) (i : ℕ) : Type 0 where
+pub record Checked (rules : Rules) (s : List ℕ) (at count : ℕ) (y : Item) (i : ℕ) : Type 0 where
   pub some : 1 ≤ i
   pub inside : i ≤ count
-  pub same : number (sizesAfter y (count - i) (drop (at + 4 * i) s)) ≡ number (sizesFrom count (drop at s))
+  pub same : number (sizesAfter rules y (count - i) (drop (at + 4 * i) s)) ≡ number (sizesFrom rules count (drop at s))
 
 -- One size's two questions, answered by l and o, before what follows them: they stop with n, or pass.
 module _ {A : Type 0} where
@@ -89,21 +97,21 @@ size-passes true false h k = absurd (let z : _≡_ {A = ℕ} 0 1 = cc in omega a
 size-passes false o h k = absurd (let z : _≡_ {A = ℕ} 0 1 = cc in omega arith)
 
 -- The first size z, whose test is l.
-pub first-stops : (s : List ℕ) (at count : ℕ) (z : Item) (l : Bool) (n : ℕ) → 1 ≤ count → z ≡ sizeAt (drop at s) → l ≡ limited z → n ≡ sizeNumber l true → (n ≡ 0 → ⊥) → n ≡ number (sizesFrom count (drop at s))
+pub first-stops : (rules : Rules) (s : List ℕ) (at count : ℕ) (z : Item) (l : Bool) (n : ℕ) → 1 ≤ count → z ≡ sizeAt (drop at s) → l ≡ limited z → n ≡ sizeNumber l true → (n ≡ 0 → ⊥) → n ≡ number (sizesFrom rules count (drop at s))
 unfolding sizesFrom
-first-stops s at zero z l n some here limits e h = absurd (omega arith)
-first-stops s at (suc k) z l n some here limits e h =
+first-stops rules s at zero z l n some here limits e h = absurd (omega arith)
+first-stops rules s at (suc k) z l n some here limits e h =
     let same : l ≡ limited (sizeAt (drop at s)) = limits ∙ ap limited here in
     stop (limited (sizeAt (drop at s))) true _ n (e ∙ ap (λ (b : Bool). sizeNumber b true) same) h
 
-pub first-checked : (s : List ℕ) (at count : ℕ) (z : Item) (l : Bool) (n : ℕ) → 1 ≤ count → z ≡ sizeAt (drop at s) → l ≡ limited z → n ≡ sizeNumber l true → n ≡ 0 → Checked s at count z 1
+pub first-checked : (rules : Rules) (s : List ℕ) (at count : ℕ) (z : Item) (l : Bool) (n : ℕ) → 1 ≤ count → z ≡ sizeAt (drop at s) → l ≡ limited z → n ≡ sizeNumber l true → n ≡ 0 → Checked rules s at count z 1
 unfolding sizesFrom
-first-checked s at zero z l n some here limits e h = absurd (omega arith)
-first-checked s at (suc k) z l n some here limits e h =
+first-checked rules s at zero z l n some here limits e h = absurd (omega arith)
+first-checked rules s at (suc k) z l n some here limits e h =
     let same : l ≡ limited (sizeAt (drop at s)) = limits ∙ ap limited here in
     let less : suc k - 1 ≡ k = omega arith in
     let next-place : at + 4 * 1 ≡ at + 4 = omega arith in
-    let rest = sizesAfter (sizeAt (drop at s)) k (drop 4 (drop at s)) in
+    let rest = sizesAfter rules (sizeAt (drop at s)) k (drop 4 (drop at s)) in
     record {
       some = omega arith;
       inside = omega arith;
@@ -114,25 +122,25 @@ first-checked s at (suc k) z l n some here limits e h =
     }
 
 -- A later size z, after the size y, and its tests l and o.
-module _ (s : List ℕ) (at count i : ℕ) (y z : Item) (l o : Bool) (n : ℕ) (known : Checked s at count y i) (more : i < count) (here : z ≡ sizeAt (drop (at + 4 * i) s)) (limits : l ≡ limited z) (order : o ≡ ordered y z) (e : n ≡ sizeNumber l o) where
+module _ (rules : Rules) (s : List ℕ) (at count i : ℕ) (y z : Item) (l o : Bool) (n : ℕ) (known : Checked rules s at count y i) (more : i < count) (here : z ≡ sizeAt (drop (at + 4 * i) s)) (limits : l ≡ limited z) (order : o ≡ inOrder rules y z) (e : n ≡ sizeNumber l o) where
   abbrev bytes : List ℕ
   bytes = drop (at + 4 * i) s
 
-  tests : n ≡ sizeNumber (limited (sizeAt bytes)) (ordered y (sizeAt bytes))
+  tests : n ≡ sizeNumber (limited (sizeAt bytes)) (inOrder rules y (sizeAt bytes))
   tests =
       e ∙ ap (λ (b : Bool). sizeNumber b o) (limits ∙ ap limited here)
-      ∙ ap (λ (b : Bool). sizeNumber (limited (sizeAt bytes)) b) (order ∙ ap (ordered y) here)
+      ∙ ap (λ (b : Bool). sizeNumber (limited (sizeAt bytes)) b) (order ∙ ap (inOrder rules y) here)
 
-  same : number (sizesAfter y (suc (count - (i + 1))) bytes) ≡ number (sizesFrom count (drop at s))
+  same : number (sizesAfter rules y (suc (count - (i + 1))) bytes) ≡ number (sizesFrom rules count (drop at s))
   same =
       let steps : count - i ≡ suc (count - (i + 1)) = omega arith in
-      subst (λ (k : ℕ). number (sizesAfter y k bytes) ≡ number (sizesFrom count (drop at s))) steps (known .same)
+      subst (λ (k : ℕ). number (sizesAfter rules y k bytes) ≡ number (sizesFrom rules count (drop at s))) steps (known .same)
 
-  pub later-stops : (n ≡ 0 → ⊥) → n ≡ number (sizesFrom count (drop at s))
+  pub later-stops : (n ≡ 0 → ⊥) → n ≡ number (sizesFrom rules count (drop at s))
   unfolding sizesAfter
-  later-stops h = stop (limited (sizeAt bytes)) (ordered y (sizeAt bytes)) _ n tests h ∙ same
+  later-stops h = stop (limited (sizeAt bytes)) (inOrder rules y (sizeAt bytes)) _ n tests h ∙ same
 
-  pub later-checked : n ≡ 0 → Checked s at count z (i + 1)
+  pub later-checked : n ≡ 0 → Checked rules s at count z (i + 1)
   unfolding sizesAfter
   later-checked h =
       record {
@@ -140,13 +148,13 @@ module _ (s : List ℕ) (at count i : ℕ) (y z : Item) (l o : Bool) (n : ℕ) (
         inside = omega arith;
         same =
             rw (here, ← size-below s at i)
-            (sym (number-next (sizesAfter (sizeAt bytes) (count - (i + 1)) (drop 4 bytes)) (λ zs. sizeAt bytes ∷ zs))
-            ∙ sym (pass (limited (sizeAt bytes)) (ordered y (sizeAt bytes)) _ (sym h ∙ tests))
+            (sym (number-next (sizesAfter rules (sizeAt bytes) (count - (i + 1)) (drop 4 bytes)) (λ zs. sizeAt bytes ∷ zs))
+            ∙ sym (pass (limited (sizeAt bytes)) (inOrder rules y (sizeAt bytes)) _ (sym h ∙ tests))
             ∙ same);
       }
 
-pub all-checked : (s : List ℕ) (at count : ℕ) (y : Item) (i : ℕ) → Checked s at count y i → count ≤ i → 0 ≡ number (sizesFrom count (drop at s))
+pub all-checked : (rules : Rules) (s : List ℕ) (at count : ℕ) (y : Item) (i : ℕ) → Checked rules s at count y i → count ≤ i → 0 ≡ number (sizesFrom rules count (drop at s))
 unfolding sizesAfter
-all-checked s at count y i known h =
+all-checked rules s at count y i known h =
     let none : count - i ≡ 0 = omega arith in
-    subst (λ (n : ℕ). number (sizesAfter y n (drop (at + 4 * i) s)) ≡ number (sizesFrom count (drop at s))) none (known .same)
+    subst (λ (n : ℕ). number (sizesAfter rules y n (drop (at + 4 * i) s)) ≡ number (sizesFrom rules count (drop at s))) none (known .same)

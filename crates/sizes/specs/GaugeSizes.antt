@@ -1,5 +1,5 @@
--- Document 01, "The face file" and "The checks, as questions": the sizes of a gauge, taken in turn, or the first of checks 8 and 9 that they fail.
-use mathlib.Core.Bool.{Bool, _&&_}
+-- Document 01, "The face file" and "The checks, as questions": the sizes of a gauge, taken in turn, or the first of checks 8 and 9 that they fail. Document 02, Paper 1, has files whose sizes are not asked for their order.
+use mathlib.Core.Bool.{Bool, true, cond, _&&_}
 use mathlib.Core.List.{List, [], _∷_}
 use Prim.Native.Nat.{ℕ, zero, suc, _+_, _*_}
 use lib.ListN.{getD, drop}
@@ -7,6 +7,7 @@ use lib.Dec.{leb, ltb}
 use Rattle.checks.specs.Check.{Limits, Order}
 use Rattle.checks.specs.Answer.{Answer, taken, ask, next}
 use Rattle.slicing.specs.Item.{Item, size, height, width}
+use Rattle.sizes.specs.Rules.{Rules, asksOrder}
 
 -- 16-bit fields have the high byte first: the field at a place of the bytes.
 abbrev pub field : List ℕ → ℕ → ℕ
@@ -27,17 +28,21 @@ limited z = within 1 1_000 (height z) && within 1 1_000 (width z)
 abbrev pub ordered : Item → Item → Bool
 ordered y z = ltb (height z) (height y) && ltb (width y) (width z)
 
+-- The same, where it is asked.
+abbrev pub inOrder : Rules → Item → Item → Bool
+inOrder rules y z = cond (asksOrder rules) (ordered y z) true
+
 -- For each size in turn, where y is the size before: 8, then 9.
-unfoldable pub sizesAfter : Item → ℕ → List ℕ → Answer (List Item)
-sizesAfter y zero bytes = taken []
-sizesAfter y (suc k) bytes =
+unfoldable pub sizesAfter : Rules → Item → ℕ → List ℕ → Answer (List Item)
+sizesAfter rules y zero bytes = taken []
+sizesAfter rules y (suc k) bytes =
     ask (limited (sizeAt bytes)) Limits
-    (ask (ordered y (sizeAt bytes)) Order
-    (next (sizesAfter (sizeAt bytes) k (drop 4 bytes)) (λ zs. taken (sizeAt bytes ∷ zs))))
+    (ask (inOrder rules y (sizeAt bytes)) Order
+    (next (sizesAfter rules (sizeAt bytes) k (drop 4 bytes)) (λ zs. taken (sizeAt bytes ∷ zs))))
 
 -- The first size has none before it.
-unfoldable pub sizesFrom : ℕ → List ℕ → Answer (List Item)
-sizesFrom zero bytes = taken []
-sizesFrom (suc k) bytes =
+unfoldable pub sizesFrom : Rules → ℕ → List ℕ → Answer (List Item)
+sizesFrom rules zero bytes = taken []
+sizesFrom rules (suc k) bytes =
     ask (limited (sizeAt bytes)) Limits
-    (next (sizesAfter (sizeAt bytes) k (drop 4 bytes)) (λ zs. taken (sizeAt bytes ∷ zs)))
+    (next (sizesAfter rules (sizeAt bytes) k (drop 4 bytes)) (λ zs. taken (sizeAt bytes ∷ zs)))

@@ -4,7 +4,8 @@ ghost use Prim.Native.Nat.{_+_, _*_, _≤_};
 ghost use lib.ListN.{length, drop};
 ghost use Rattle.checks.specs.Answer.{number};
 ghost use Rattle.slicing.specs.Item.{size};
-ghost use Rattle.sizes.specs.GaugeSizes.{limited, ordered, sizesFrom};
+ghost use Rattle.sizes.specs.Rules.{versionRules};
+ghost use Rattle.sizes.specs.GaugeSizes.{limited, ordered, inOrder, sizesFrom};
 ghost use Rattle.sizes.specs.inside.Sizes.{sizeNumber};
 use crate::Size;
 use crate::field::is_within;
@@ -24,6 +25,13 @@ fn is_ordered(before: Size, z: Size) -> bool
     z.height < before.height && before.width < z.width
 }
 
+// The same, where the version asks it: version 1 alone.
+fn is_in_order(version: u32, before: Size, z: Size) -> bool
+    ensures { λ r. ⌜ r ≡ inOrder (versionRules version) (size (before .height) (before .width)) (size (z .height) (z .width)) ⌝ }
+{
+    version != 1 || is_ordered(before, z)
+}
+
 // The number of the first of checks 8 and 9 that fails for one size, or 0.
 fn size_number(limits: bool, order: bool) -> u32
     ensures { λ r. ⌜ r ≡ sizeNumber limits order ⌝ }
@@ -38,9 +46,9 @@ fn size_number(limits: bool, order: bool) -> u32
 }
 
 // The number of the first of checks 8 and 9 that fails among the sizes at a place, taken in turn, or 0.
-pub fn sizes_number(file: &[u8], at: usize, count: usize) -> u32
+pub fn sizes_number(file: &[u8], version: u32, at: usize, count: usize) -> u32
     requires { ⌜ (1 ≤ count) × (count ≤ 8) × (at + 4 * count ≤ length (now file)) ⌝ }
-    ensures { λ r. ⌜ r ≡ number (sizesFrom count (drop at (now (file .entry)))) ⌝ }
+    ensures { λ r. ⌜ r ≡ number (sizesFrom (versionRules version) count (drop at (now (file .entry)))) ⌝ }
 {
     let mut before = size_at(file, at);
     let first = size_number(is_limited(before), true);
@@ -50,7 +58,7 @@ pub fn sizes_number(file: &[u8], at: usize, count: usize) -> u32
     let mut i = 1;
     while i < count {
         let z = size_at(file, at + 4 * i);
-        let later = size_number(is_limited(z), is_ordered(before, z));
+        let later = size_number(is_limited(z), is_in_order(version, before, z));
         if later != checks::TAKEN {
             return later;
         }

@@ -1,12 +1,15 @@
 -- A walk over the entries of a taken file, by a place in its bytes: where it stands, and what it finds there. No public contract cites it.
 use mathlib.Core.Path.{_≡_}
+use mathlib.Core.Bool.{true}
 use mathlib.Core.List.{List, _∷_}
 use Prim.Native.Nat.{ℕ, _-_, _≤_, _<_}
 use lib.ListN.{length, take, drop}
 use Rattle.checks.specs.Answer.{taken, next}
 use Rattle.slicing.specs.Tree.{Tree, gauge}
+use Rattle.slicing.specs.Good.{Ordered}
+use Rattle.sizes.specs.Rules.{asksOrder}
 use Rattle.entries.specs.Entry.{State, entries}
-use Rattle.facefile.specs.Format.{start, atEnd, faceOf}
+use Rattle.facefile.specs.Format.{rulesOf, start, atEnd, faceOf}
 use Rattle.entries.specs.inside.Kinds.{Cut}
 use Rattle.sizes.specs.inside.Sizes.{sizesIn, Sized}
 use Rattle.facefile.specs.declared.walk.GaugeEntry.{GaugeEntry}
@@ -27,9 +30,9 @@ pub record Walk (file : List ℕ) (face : Tree) (at : ℕ) (stack : List Tree) :
   pub inside : at ≤ length file
   pub gauges : ℕ
   pub done : ℕ
-  pub read : entries done (start file) ≡ taken (stateAt file at stack gauges)
+  pub read : entries (rulesOf file) done (start file) ≡ taken (stateAt file at stack gauges)
   pub left : ℕ
-  pub gives : next (entries left (stateAt file at stack gauges)) atEnd ≡ taken face
+  pub gives : next (entries (rulesOf file) left (stateAt file at stack gauges)) atEnd ≡ taken face
 
 -- The bytes of a gauge's sizes.
 abbrev pub sizeBytesOf : List ℕ → GaugeEntry → List ℕ
@@ -40,7 +43,9 @@ pub record GaugeAt (file : List ℕ) (face : Tree) (at : ℕ) (stack : List Tree
   pub upward : g .from ≤ g .to
   pub inside : g .to ≤ length file
   pub sized : Sized (g .count) (sizeBytesOf file g)
+  pub some : 1 ≤ g .count
   pub few : g .count ≤ 8
+  pub order : asksOrder (rulesOf file) ≡ true → Ordered (sizesIn (g .count) (sizeBytesOf file g))
   pub further : at < g .next
   pub walk : Walk file face (g .next) (gauge (sizesIn (g .count) (sizeBytesOf file g)) ∷ stack)
 

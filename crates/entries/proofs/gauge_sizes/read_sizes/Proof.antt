@@ -28,11 +28,8 @@ sizes-number-requires c κs =
 returns-3 : tie.Need-returns-3
 returns-3 c = search (needs, sizes-bad)
 
-mul-t9 : tie.Need-mul-t9
-mul-t9 c = search needs
-
-add-t10 : tie.Need-add-t10
-add-t10 c = search needs
+mul-t10 : tie.Need-mul-t10
+mul-t10 c = search needs
 
 add-t11 : tie.Need-add-t11
 add-t11 c = search needs
@@ -42,6 +39,9 @@ add-t12 c = search needs
 
 add-t13 : tie.Need-add-t13
 add-t13 c = search needs
+
+add-t14 : tie.Need-add-t14
+add-t14 c = search needs
 
 returns-4 : tie.Need-returns-4
 returns-4 c = search (needs, sizes-taken)
@@ -57,9 +57,9 @@ read-sizes-spec =
     returns-2
     sizes-number-requires
     returns-3
-    mul-t9
-    add-t10
+    mul-t10
     add-t11
     add-t12
     add-t13
+    add-t14
     returns-4)

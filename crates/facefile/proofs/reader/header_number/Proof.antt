@@ -29,14 +29,17 @@ returns-2 c = search (needs, header-unmarked)
 field-requires : tie.Need-field-requires
 field-requires c κs = search needs
 
+is-within-requires : tie.Need-is-within-requires
+is-within-requires c κs = search needs
+
 returns-3 : tie.Need-returns-3
 returns-3 c = search (needs, header-version)
 
 field-requires-2 : tie.Need-field-requires-2
 field-requires-2 c κs = search needs
 
-is-within-requires : tie.Need-is-within-requires
-is-within-requires c κs = search needs
+is-within-requires-2 : tie.Need-is-within-requires-2
+is-within-requires-2 c κs = search needs
 
 returns-4 : tie.Need-returns-4
 returns-4 c = search (needs, header-count)
@@ -56,8 +59,9 @@ header-number-spec =
     same-requires
     returns-2
     field-requires
+    is-within-requires
     returns-3
     field-requires-2
-    is-within-requires
+    is-within-requires-2
     returns-4
     returns-5)

@@ -1,6 +1,7 @@
 -- `facefile::reader::read` meets its contract.
 -- For each way out a law of `Reading` takes what the parts of the file answered.
 use Rattle.facefile.proofs.Reading.{header-long, read-header, read-stop, read-fair, read-next}
+use native.Mathlib.Omega.{arith}
 use borrow.Author.Needs.{needs}
 use Rattle.facefile.proofs.reader.read.Statement.{statement}
 use Rattle.facefile.proofs.reader.read.Tie as tie
@@ -15,7 +16,11 @@ returns : tie.Need-returns
 returns c = search (needs, read-header)
 
 field-requires : tie.Need-field-requires
-field-requires c κs = search (needs, header-long)
+field-requires c κs =
+    let long = header-long _ _ (c .before .header-number .ensures) (c .if1 .left) in omega arith
+
+field-requires-2 : tie.Need-field-requires-2
+field-requires-2 c κs = search (needs, header-long)
 
 cast-read-entries : tie.Need-cast-read-entries
 cast-read-entries c = search needs
@@ -49,6 +54,7 @@ read-spec =
     refused-requires
     returns
     field-requires
+    field-requires-2
     cast-read-entries
     read-entries-requires
     enum-known-number

@@ -3,15 +3,17 @@
 use borrow.Author.Needs.{needs}
 use Prim.Native.Nat.{_-_}
 use Rattle.slicing.specs.Item.{size}
+use Rattle.sizes.specs.Rules.{versionRules}
 use Rattle.sizes.proofs.SizeChecks.{Checked, first-stops, first-checked, later-stops, later-checked, all-checked}
 use Rattle.sizes.proofs.questions.sizes_number.Statement.{statement}
 use Rattle.sizes.proofs.questions.sizes_number.Tie as tie
 
 abbrev Inv-loop : tie.InvT-loop
-Inv-loop file at count before₀ first i₀ before i = Checked file at count (size (before .height) (before .width)) i
+Inv-loop file version at count before₀ first i₀ before i =
+    Checked (versionRules version) file at count (size (before .height) (before .width)) i
 
 abbrev μ-loop : tie.MeasureT-loop
-μ-loop file at count before₀ first i₀ before i = count - i
+μ-loop file version at count before₀ first i₀ before i = count - i
 
 size-at-requires : tie.Need-size-at-requires Inv-loop μ-loop
 size-at-requires c κs = search needs
@@ -40,8 +42,8 @@ size-at-requires-2 c κs = search needs
 is-limited-requires-2 : tie.Need-is-limited-requires-2 Inv-loop μ-loop
 is-limited-requires-2 c κs = search needs
 
-is-ordered-requires : tie.Need-is-ordered-requires Inv-loop μ-loop
-is-ordered-requires c κs = search needs
+is-in-order-requires : tie.Need-is-in-order-requires Inv-loop μ-loop
+is-in-order-requires c κs = search needs
 
 size-number-requires-2 : tie.Need-size-number-requires-2 Inv-loop μ-loop
 size-number-requires-2 c κs = search needs
@@ -61,8 +63,8 @@ loop-again c =
     let at-size-at2 = at-is-limited2 .before in
     let at-loop-test = at-size-at2 .before in
     let at-loop = at-loop-test .before in
-    later-checked _ _ _ _ _ _ _ _ _ (at-loop .loop .inv) (at-loop-test .loop-test .taken) (at-size-at2 .size-at2 .ensures .0)
-    (at-is-limited2 .is-limited2 .ensures) (c .before .before .is-ordered .ensures) (c .before .size-number2 .ensures) (c .if2 .left)
+    later-checked _ _ _ _ _ _ _ _ _ _ (at-loop .loop .inv) (at-loop-test .loop-test .taken) (at-size-at2 .size-at2 .ensures .0)
+    (at-is-limited2 .is-limited2 .ensures) (c .before .before .is-in-order .ensures) (c .before .size-number2 .ensures) (c .if2 .left)
 
 returns-3 : tie.Need-returns-3 Inv-loop μ-loop
 returns-3 c = search (needs, all-checked)
@@ -82,7 +84,7 @@ sizes-number-spec =
     add-size-at
     size-at-requires-2
     is-limited-requires-2
-    is-ordered-requires
+    is-in-order-requires
     size-number-requires-2
     returns-2
     add-i
