@@ -1,0 +1,12 @@
+pub mod Digits
+pub mod Places
+pub mod LastDigit
+pub mod Shifts
+pub mod FirstDigits
+pub mod NumberAt
+pub mod Neighbours
+pub mod SizesFit
+pub mod NoWorse
+pub mod NarrowestSeen
+pub mod NextItem
+pub mod ListSoFar
