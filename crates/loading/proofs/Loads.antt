@@ -1,13 +1,13 @@
--- What the loop that loads a gauge's sizes keeps: the sizes from i on are the list of the head.
--- One record goes before the others at a turn, with the number, the level and the size that stand before theirs.
+-- What the loop that loads a gauge's list keeps: the sizes at the places from i on are the list of the head, and the word that is left is that of the places before.
+-- One record goes before the others at a turn, with the number, the level and the size of the place whose digit is the last.
 use mathlib.Core.Path.{_≡_, refl, sym, ap, ap₂, subst, _∙_}
 use mathlib.Core.List.{List, [], _∷_, map}
-use Prim.Native.Nat.{ℕ, zero, suc, _+_, _-_, _≤_, _<_}
-use native.Mathlib.Numerals.{add-one}
+use Prim.Native.Nat.{ℕ, suc, _+_, _-_, _/_, _%_, _≤_, _<_}
 use native.Mathlib.Omega.{arith}
-use lib.ListN.{length, getD, drop, drop-of-length-le}
-use lib.Seq.{drop-cons, drop-length}
+use lib.ListN.{length, getD, drop, drop-of-length-le, length-drop}
+use lib.Seq.{drop-length, getD-drop}
 use Rattle.slicing.specs.Item.{Item, size}
+use Rattle.slicing.specs.Useful.{gaugeShapes}
 use Rattle.arena.specs.Arena.{level, mWord, levelAt, mAt, forwardAt}
 use Rattle.arena.specs.inside.Chain.{put, All, Away, trues, Same}
 use Rattle.arena.specs.inside.Built.{Built}
@@ -15,7 +15,11 @@ use Rattle.building.specs.inside.Building.{Cleared}
 use Rattle.sizes.specs.declared.Size.{Size}
 use Rattle.sizes.specs.inside.Sizes.{sizesIn, SizeIn}
 use Rattle.sizes.proofs.SizesIn.{in-length}
-use Rattle.loading.specs.inside.Loading.{numbers, Placed, Loadable, Loaded}
+use Rattle.useful.specs.inside.Order.{listPlaces, firstDigits, orderWord}
+use Rattle.useful.proofs.Digits.{digits-all}
+use Rattle.useful.proofs.Places.{places-length, places-apart}
+use Rattle.useful.proofs.LastDigit.{Digit, digit, none-left, rest-step, size-read}
+use Rattle.loading.specs.inside.Loading.{recordsOf, Placed, Loadable, Loaded}
 use Rattle.arena.proofs.PutLaws.{length-put, same-refl, same-trans}
 use Rattle.arena.proofs.Frames.{all-map, all-both, map-same}
 use Rattle.building.proofs.ClearLaws.{cleared-first}
@@ -27,39 +31,38 @@ ms zs = map (λ (z : Item). z .m) zs
 abbrev ps : List Item → List ℕ
 ps zs = map (λ (z : Item). z .p) zs
 
-numbers-away : (x r n : ℕ) → x < r → Away x (numbers r n)
-unfolding numbers
-numbers-away x r zero p = tt
-numbers-away x r (suc n) p = ((λ (e : r ≡ x). omega arith), numbers-away x (suc r) n (omega arith))
+-- The records of the places from i on, and their levels.
+abbrev pub recordsFrom : ℕ → List Item → ℕ → List ℕ
+recordsFrom first s i = map (λ (k : ℕ). first + k) (drop i (listPlaces s))
 
--- The numbers from k on, where k is below n, and what a list has from k on.
-numbers-step : (r k n : ℕ) → k < n → numbers (r + k) (n - k) ≡ (r + k) ∷ numbers (r + (k + 1)) (n - (k + 1))
-unfolding numbers
-numbers-step r k n p =
-    let e : n - k ≡ suc (n - (k + 1)) = omega arith in
-    let f : suc (r + k) ≡ r + (k + 1) = omega arith in
-    ap (numbers (r + k)) e ∙ ap (λ (x : ℕ). (r + k) ∷ numbers x (n - (k + 1))) f
+abbrev pub levelsFrom : List ℕ → List Item → ℕ → List ℕ
+levelsFrom levels s i = map (λ (k : ℕ). getD levels k 0) (drop i (listPlaces s))
 
-rest-step : {A : Type 0} (l : List A) (k : ℕ) (d : A) → k < length l → drop k l ≡ getD l k d ∷ drop (k + 1) l
-rest-step l k d p = rw (add-one, drop-cons l k d)
+-- A place that is none of some places has a record that is none of theirs.
+places-away : (first k : ℕ) (l : List ℕ) → ((i : ℕ) → i < length l → getD l i 0 ≡ k → ⊥) → Away (first + k) (map (λ (x : ℕ). first + x) l)
+places-away first k [] other = tt
+places-away first k (x ∷ l) other =
+    ((λ (e : first + x ≡ first + k). other 0 (omega arith) (omega arith)), places-away first k l (λ i less. other (suc i) (omega arith)))
 
--- The arena a is that with the head cleared; the records from first + i on are filled and are its list. The arena d is that with the head's first forward stored.
-pub record Filled (a : List ℕ) (head first : ℕ) (sizes levels d : List ℕ) (i : ℕ) : Type 0 where
-  pub outside : (x : ℕ) → (x ≡ head → ⊥) → Away x (numbers (first + i) (length levels - i)) → Same a d x
-  pub built : Built d head (numbers (first + i) (length levels - i))
-  pub level-is : map (level d) (numbers (first + i) (length levels - i)) ≡ drop i levels
-  pub m-is : map (mWord d) (numbers (first + i) (length levels - i)) ≡ ms (drop i (sizesIn (length levels) sizes))
-  pub true-p : trues d (λ k. 0) (numbers (first + i) (length levels - i)) ≡ ps (drop i (sizesIn (length levels) sizes))
+-- The arena a is that with the head cleared; the records of the places from i on are filled and are its list. The arena d is that with the head's first forward stored.
+pub record Filled (a : List ℕ) (head first : ℕ) (s : List Item) (levels d : List ℕ) (i : ℕ) : Type 0 where
+  pub outside : (x : ℕ) → (x ≡ head → ⊥) → Away x (recordsFrom first s i) → Same a d x
+  pub built : Built d head (recordsFrom first s i)
+  pub level-is : map (level d) (recordsFrom first s i) ≡ levelsFrom levels s i
+  pub m-is : map (mWord d) (recordsFrom first s i) ≡ ms (drop i (gaugeShapes s))
+  pub true-p : trues d (λ k. 0) (recordsFrom first s i) ≡ ps (drop i (gaugeShapes s))
 
--- The same with that forward beside the arena b, as `last`.
-pub record Loading (a : List ℕ) (head first : ℕ) (sizes levels b : List ℕ) (last i : ℕ) : Type 0 where
-  pub inside : i ≤ length levels
-  pub can : Loadable b head first sizes levels
+-- The same with that forward beside the arena b, as `last`, and the word that is left.
+pub record Loading (a : List ℕ) (head first : ℕ) (sizes levels : List ℕ) (order : ℕ) (b : List ℕ) (last left : ℕ) : Type 0 where
+  pub i : ℕ
+  pub inside : i ≤ length (listPlaces (sizesIn (length levels) sizes))
+  pub left-is : left ≡ firstDigits (listPlaces (sizesIn (length levels) sizes)) i
+  pub can : Loadable b head first sizes levels order
   pub long : length b ≡ length a
-  pub filled : Filled a head first sizes levels (put b head forwardAt last) i
+  pub filled : Filled a head first (sizesIn (length levels) sizes) levels (put b head forwardAt last) i
 
-loadable-kept : (a b : List ℕ) (head first : ℕ) (sizes levels : List ℕ) → length b ≡ length a → Loadable a head first sizes levels → Loadable b head first sizes levels
-loadable-kept a b head first sizes levels long l =
+loadable-kept : (a b : List ℕ) (head first : ℕ) (sizes levels : List ℕ) (order : ℕ) → length b ≡ length a → Loadable a head first sizes levels order → Loadable b head first sizes levels order
+loadable-kept a b head first sizes levels order long l =
     let x = l .head-has in
     let y = l .has in
     record {
@@ -71,48 +74,64 @@ loadable-kept a b head first sizes levels long l =
       low = l .low;
       high = l .high;
       bytes = l .bytes;
+      few = l .few;
+      order-is = l .order-is;
     }
 
-pub loading-start : (a : List ℕ) (head first : ℕ) (sizes levels b : List ℕ) → Loadable a head first sizes levels → Cleared a head b → Loading b head first sizes levels b 0 (length levels)
-unfolding numbers trues
-loading-start a head first sizes levels b l cleared =
-    let none : length levels - length levels ≡ 0 = omega arith in
+pub loading-start : (a : List ℕ) (head first : ℕ) (sizes levels : List ℕ) (order : ℕ) (b : List ℕ) → Loadable a head first sizes levels order → Cleared a head b → Loading b head first sizes levels order b 0 order
+unfolding trues orderWord
+loading-start a head first sizes levels order b l cleared =
+    let s = sizesIn (length levels) sizes in
     let same = cleared-first a head b cleared in
-    let many = in-length (length levels) sizes in
-    let no-size : drop (length levels) (sizesIn (length levels) sizes) ≡ [] = drop-of-length-le (sizesIn (length levels) sizes) {i = length levels} (omega arith) in
+    let many = places-length s in
+    let no-place = drop-length (listPlaces s) in
+    let no-size : drop (length (listPlaces s)) (gaugeShapes s) ≡ [] = drop-of-length-le (gaugeShapes s) {i = length (listPlaces s)} (omega arith) in
     record {
+      i = length (listPlaces s);
       inside = omega arith;
-      can = loadable-kept a b head first sizes levels (cleared .long) l;
+      left-is = l .order-is ∙ sym (digits-all (listPlaces s));
+      can = loadable-kept a b head first sizes levels order (cleared .long) l;
       long = refl;
       filled =
-          subst (λ (d : List ℕ). Filled b head first sizes levels d (length levels)) (sym same)
+          subst (λ (d : List ℕ). Filled b head first s levels d (length (listPlaces s))) (sym same)
           (record {
             outside = λ x p q. same-refl b x;
-            built = rw none (cleared .built);
-            level-is = rw none (sym (drop-length levels));
-            m-is = rw (none, no-size) refl;
-            true-p = rw (none, no-size) refl;
+            built = rw no-place (cleared .built);
+            level-is = rw no-place refl;
+            m-is = rw (no-place, no-size) refl;
+            true-p = rw (no-place, no-size) refl;
           });
     }
 
-pub loading-low : (b : List ℕ) (head first : ℕ) (sizes levels : List ℕ) (k v : ℕ) → Loadable b head first sizes levels → k < length levels → v ≡ getD levels k 0 → 1 ≤ v
-loading-low b head first sizes levels k v l p e = let h = l .low k p in omega arith
+pub loading-low : (b : List ℕ) (head first : ℕ) (sizes levels : List ℕ) (order k v : ℕ) → Loadable b head first sizes levels order → k < length levels → v ≡ getD levels k 0 → 1 ≤ v
+loading-low b head first sizes levels order k v l p e = let h = l .low k p in omega arith
 
-pub loading-high : (b : List ℕ) (head first : ℕ) (sizes levels : List ℕ) (k v : ℕ) → Loadable b head first sizes levels → k < length levels → v ≡ getD levels k 0 → v ≤ 8
-loading-high b head first sizes levels k v l p e = let h = l .high k p in omega arith
+pub loading-high : (b : List ℕ) (head first : ℕ) (sizes levels : List ℕ) (order k v : ℕ) → Loadable b head first sizes levels order → k < length levels → v ≡ getD levels k 0 → v ≤ 8
+loading-high b head first sizes levels order k v l p e = let h = l .high k p in omega arith
 
--- The record of size k before those of the sizes from k + 1 on.
-module _ (a : List ℕ) (head first : ℕ) (sizes levels b : List ℕ) (last k : ℕ) (t : Loading a head first sizes levels b last (k + 1)) where
-  module _ (v : ℕ) (z : Size) (c : List ℕ) (v-is : v ≡ getD levels k 0) (here : SizeIn sizes k z) (placed : Placed b head (first + k) last v (z .height) (z .width) c) where
-    less : k < length levels
-    less = let inside = t .inside in omega arith
+-- The record of the place whose digit is the last, before those of the places after it.
+module _ (a : List ℕ) (head first : ℕ) (sizes levels : List ℕ) (order : ℕ) (b : List ℕ) (last left : ℕ) (t : Loading a head first sizes levels order b last left) (more : 0 < left) where
+  abbrev s : List Item
+  s = sizesIn (length levels) sizes
+
+  taken : Digit s left (t .i)
+  taken = let few = t .can .few in let many = in-length (length levels) sizes in digit s left (t .i) (omega arith) (t .inside) (t .left-is) more
+
+  pub loading-some : 1 ≤ left % 16
+  loading-some = taken .some
+
+  pub loading-place : left % 16 - 1 < length levels
+  loading-place = let many = in-length (length levels) sizes in let low = taken .low in omega arith
+
+  module _ (v : ℕ) (z : Size) (c : List ℕ) (v-is : v ≡ getD levels (left % 16 - 1) 0) (here : SizeIn sizes (left % 16 - 1) z) (placed : Placed b head (first + (left % 16 - 1)) last v (z .height) (z .width) c) where
+    abbrev j : ℕ
+    j = taken .j
+
+    abbrev k : ℕ
+    k = left % 16 - 1
 
     rest : List ℕ
-    rest = numbers (first + (k + 1)) (length levels - (k + 1))
-
-    away : Away (first + k) rest
-    unfolding rest
-    away = numbers-away (first + k) (first + (k + 1)) (length levels - (k + 1)) (omega arith)
+    rest = recordsFrom first s (j + 1)
 
     -- The arenas before and after, with the head's first forward stored.
     abbrev d : List ℕ
@@ -121,89 +140,97 @@ module _ (a : List ℕ) (head first : ℕ) (sizes levels b : List ℕ) (last k :
     abbrev e : List ℕ
     e = put c head forwardAt (first + k)
 
-    -- The sizes of all records.
-    abbrev all : List Item
-    all = sizesIn (length levels) sizes
+    before : Filled a head first s levels d (j + 1)
+    before = subst (Filled a head first s levels d) (taken .before-i) (t .filled)
 
-    sizes-step : drop k all ≡ size (z .height) (z .width) ∷ drop (k + 1) all
-    sizes-step =
-        let many = in-length (length levels) sizes in
-        let inside = less in
-        rest-step all k (size 0 0) (omega arith) ∙ ap (λ (y : Item). y ∷ drop (k + 1) all) (sym (here .same (length levels) less))
+    away : Away (first + k) rest
+    unfolding rest
+    away =
+        let long = length-drop (j + 1) (listPlaces s) in
+        let place = taken .place in
+        places-away first k (drop (j + 1) (listPlaces s))
+        (λ i less same.
+        let at = getD-drop (j + 1) (listPlaces s) i 0 in
+        places-apart s j (j + 1 + i) (omega arith) (omega arith) (omega arith))
+
+    places-step : drop j (listPlaces s) ≡ k ∷ drop (j + 1) (listPlaces s)
+    places-step =
+        rest-step (listPlaces s) j 0 (taken .in-list)
+        ∙ ap (λ (x : ℕ). x ∷ drop (j + 1) (listPlaces s)) (sym (taken .place))
+
+    sizes-read : drop j (gaugeShapes s) ≡ size (z .height) (z .width) ∷ drop (j + 1) (gaugeShapes s)
+    sizes-read = size-read sizes (length levels) left (t .i) z taken here
 
     one : Loaded1 d head (first + k) v (z .height) (z .width) rest e
     unfolding rest
     one =
-        let inside = less in
+        let inside = loading-place in
         let some = t .can .some in
         let has = t .can .has in
-        let low = t .can .low k less in
-        let high = t .can .high k less in
+        let low = t .can .low k inside in
+        let high = t .can .high k inside in
         let small = here .width-fits in
-        loaded-beside b head (first + k) v (z .height) (z .width) last rest c (t .filled .built) (omega arith) (omega arith) (omega arith) (omega arith) (omega arith) (t .can .apart k less) away placed
+        loaded-beside b head (first + k) v (z .height) (z .width) last rest c (before .built) (omega arith) (omega arith) (omega arith) (omega arith) (omega arith) (t .can .apart k inside) away placed
 
     rest-same : All (Same d e) rest
     unfolding rest
-    rest-same = all-both rest (one .outside) (t .filled .built .linked .away) away
+    rest-same = all-both rest (one .outside) (before .built .linked .away) away
 
-    filled-one : Filled a head first sizes levels e k
+    filled-one : Filled a head first s levels e j
     unfolding rest
     filled-one =
         record {
-          outside = rw (numbers-step first k (length levels) less)
-              (λ x p q. same-trans a d e x (t .filled .outside x p (q .1)) (one .outside x p (λ f. q .0 (sym f))));
-          built = rw (numbers-step first k (length levels) less) (one .built);
+          outside = rw places-step
+              (λ x p q. same-trans a d e x (before .outside x p (q .1)) (one .outside x p (λ f. q .0 (sym f))));
+          built = rw places-step (one .built);
           level-is =
-              rw (numbers-step first k (length levels) less)
+              rw places-step
               (ap₂ _∷_ (one .level-is ∙ v-is)
               (map-same (level e) (level d) rest (all-map rest (λ x (s : Same d e x). s .at levelAt (omega arith)) rest-same)
-              ∙ t .filled .level-is)
-              ∙ sym (rest-step levels k 0 less));
+              ∙ before .level-is));
           m-is =
-              rw (numbers-step first k (length levels) less, sizes-step)
+              rw (places-step, sizes-read)
               (ap₂ _∷_ (one .m-is)
               (map-same (mWord e) (mWord d) rest (all-map rest (λ x (s : Same d e x). s .at mAt (omega arith)) rest-same)
-              ∙ t .filled .m-is));
+              ∙ before .m-is));
           true-p =
-              rw (numbers-step first k (length levels) less, sizes-step)
-              (one .true-p ∙ ap (λ (l : List ℕ). z .width ∷ l) (t .filled .true-p));
+              rw (places-step, sizes-read)
+              (one .true-p ∙ ap (λ (l : List ℕ). z .width ∷ l) (before .true-p));
         }
 
-    loading-one : Loading a head first sizes levels c (first + k) k
-    loading-one =
-        let inside = less in
+    pub loading-more : Loading a head first sizes levels order c (first + k) (left / 16)
+    loading-more =
+        let inside = taken .in-list in
         let stored = one .long in
         let before = length-put b head forwardAt last in
         let after = length-put c head forwardAt (first + k) in
         let long : length c ≡ length b = omega arith in
         record {
+          i = j;
           inside = omega arith;
-          can = loadable-kept b c head first sizes levels long (t .can);
+          left-is = taken .rest;
+          can = loadable-kept b c head first sizes levels order long (t .can);
           long = long ∙ t .long;
           filled = filled-one;
         }
 
-module _ (a : List ℕ) (head first : ℕ) (sizes levels b : List ℕ) (last i : ℕ) (t : Loading a head first sizes levels b last i) (some : 0 < i) where
-  pub loading-more : (v : ℕ) (z : Size) (c : List ℕ) → v ≡ getD levels (i - 1) 0 → SizeIn sizes (i - 1) z → Placed b head (first + (i - 1)) last v (z .height) (z .width) c → Loading a head first sizes levels c (first + (i - 1)) (i - 1)
-  loading-more v z c v-is here placed =
-      let back : i ≡ i - 1 + 1 = omega arith in
-      loading-one a head first sizes levels b last (i - 1) (subst (Loading a head first sizes levels b last) back t) v z c v-is here placed
+filled-all : (a : List ℕ) (head first : ℕ) (s : List Item) (levels b c : List ℕ) → Cleared a head b → length c ≡ length b → Filled b head first s levels c 0 → Loaded a head first s levels c
+unfolding recordsOf
+filled-all a head first s levels b c cleared long f =
+    record {
+      long = long ∙ cleared .long;
+      outside = λ x p q. same-trans a b c x (cleared .outside x p) (f .outside x p q);
+      built = f .built;
+      level-is = f .level-is;
+      m-is = f .m-is;
+      true-p = f .true-p;
+    }
 
-pub loading-done : (a : List ℕ) (head first : ℕ) (sizes levels b d : List ℕ) (last i : ℕ) (c : List ℕ) → Cleared a head b → Loading b head first sizes levels d last i → i ≤ 0 → c ≡ put d head forwardAt last → Loaded a head first sizes levels c
-loading-done a head first sizes levels b d last i c cleared t none stored =
-    let start : i ≡ 0 = omega arith in
-    all (subst (λ (g : List ℕ). Filled b head first sizes levels g 0) (sym stored) (subst (Filled b head first sizes levels (put d head forwardAt last)) start (t .filled)))
-  where
-    all : Filled b head first sizes levels c 0 → Loaded a head first sizes levels c
-    all s =
-        let e : first + 0 ≡ first = omega arith in
-        let f : length levels - 0 ≡ length levels = omega arith in
-        record {
-          long = ap length stored ∙ length-put d head forwardAt last ∙ t .long ∙ cleared .long;
-          outside =
-              λ x p q. same-trans a b c x (cleared .outside x p) (s .outside x p (rw (e, f) q));
-          built = rw (e, f) at (s .built);
-          level-is = rw (e, f) at (s .level-is);
-          m-is = rw (e, f) at (s .m-is);
-          true-p = rw (e, f) at (s .true-p);
-        }
+module _ (a : List ℕ) (head first : ℕ) (sizes levels : List ℕ) (order : ℕ) (b d : List ℕ) (last left : ℕ) (cleared : Cleared a head b) (t : Loading b head first sizes levels order d last left) (none : left ≤ 0) where
+  pub loading-done : (c : List ℕ) → c ≡ put d head forwardAt last → Loaded a head first (sizesIn (length levels) sizes) levels c
+  loading-done c stored =
+      let s = sizesIn (length levels) sizes in
+      let start : t .i ≡ 0 = none-left (listPlaces s) (t .i) left (t .inside) (t .left-is) none in
+      let whole = subst (Filled b head first s levels (put d head forwardAt last)) start (t .filled) in
+      filled-all a head first s levels b c cleared (ap length stored ∙ length-put d head forwardAt last ∙ t .long)
+      (subst (λ (g : List ℕ). Filled b head first s levels g 0) (sym stored) whole)

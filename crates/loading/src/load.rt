@@ -1,6 +1,8 @@
 // A list made of a gauge's sizes.
 ghost use mathlib.Core.Path.{_≡_};
 ghost use Prim.Native.Nat.{_≤_, _<_};
+ghost use lib.ListN.{length};
+ghost use Rattle.sizes.specs.inside.Sizes.{sizesIn};
 ghost use Rattle.building.specs.inside.Building.{Hookable};
 ghost use Rattle.loading.specs.inside.Loading.{Placed, Loadable, Loaded};
 use arena::words::FORWARD;
@@ -31,23 +33,24 @@ fn load_record(arena: &mut [u32], head: usize, r: usize, last: u32, level: u32, 
     prepend(arena, head, r);
 }
 
-// Makes the list of a head of the sizes, four bytes a size: m is the height and p the width. Their records are those
-// from `first` on, each with its level. The head's first forward is kept beside the arena and stored at the end.
-pub fn load(arena: &mut [u32], head: usize, first: usize, sizes: &[u8], levels: &[u8])
-    requires { ⌜ Loadable (now arena) head first (now sizes) (now levels) ⌝ }
-    ensures { λ _. ⌜ Loaded (now (arena .entry)) head first (now (sizes .entry)) (now (levels .entry)) (now (arena .exit)) ⌝ }
+// Makes the list of a head of the useful sizes, four bytes a size: m is the height and p the width. The digits of `order`
+// name them, and each has its level and the record of its number from `first` on. The head's first forward is kept beside
+// the arena and stored at the end.
+pub fn load(arena: &mut [u32], head: usize, first: usize, sizes: &[u8], levels: &[u8], order: u32)
+    requires { ⌜ Loadable (now arena) head first (now sizes) (now levels) order ⌝ }
+    ensures { λ _. ⌜ Loaded (now (arena .entry)) head first (sizesIn (length (now (levels .entry))) (now (sizes .entry))) (now (levels .entry)) (now (arena .exit)) ⌝ }
 {
     clear_head(arena, head);
     let mut last = 0;
-    let mut i = levels.len();
-    while 0 < i {
-        let k = i - 1;
+    let mut left = order;
+    while 0 < left {
+        let k = (left % 16) as usize - 1;
         let level = word_of(levels[k]);
         let z = size_in(sizes, k);
         let r = first + k;
         load_record(arena, head, r, last, level, z.height, z.width);
         last = r as u32;
-        i = k;
+        left = left / 16;
     }
     store(arena, head, FORWARD, last);
 }

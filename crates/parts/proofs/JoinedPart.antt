@@ -3,23 +3,24 @@
 use mathlib.Core.Path.{_≡_, refl, sym, ap₂, subst, _∙_}
 use mathlib.Core.Bool.{Bool, true, false, cond}
 use mathlib.Core.List.{List, [], _∷_, List·Memᴰ, List·Memᴰ·head, List·Memᴰ·tail}
-use Prim.Native.Nat.{ℕ, _+_, _≤_, _<_}
+use Prim.Native.Nat.{ℕ, _+_, _-_, _≤_, _<_}
 use native.Mathlib.Omega.{arith}
+use lib.ListN.{getD}
 use Rattle.checks.proofs.Cases.{cond-holds}
 use Rattle.slicing.specs.Good.{Ordered}
 use Rattle.slicing.specs.Recorded.{Recorded, mergeRecorded, items}
-use Rattle.arena.specs.Arena.{mWord}
+use Rattle.arena.specs.Arena.{level, mWord}
 use Rattle.arena.specs.Lazy.{held}
 use Rattle.arena.specs.inside.Chain.{All, Away, Same}
-use Rattle.arena.proofs.Cases.{lt-or-ge}
-use Rattle.arena.proofs.Frames.{all-map}
+use Rattle.arena.proofs.Cases.{lt-or-ge, eq-or-ne}
+use Rattle.arena.proofs.Frames.{all-map, all-both}
 use Rattle.arena.proofs.PutLaws.{same-trans}
 use Rattle.stepping.specs.inside.Trio.{Roomy}
 use Rattle.merging.specs.inside.Merge.{Mergeable, Merged}
 use Rattle.parts.specs.inside.Part.{firstHead, headOf, olderTurned, newerTurned, Part, Suits}
 use Rattle.parts.specs.inside.Copying.{Copied}
 use Rattle.parts.specs.inside.Joining.{turnedIf, Ranged, Turns, Faces, Joinable, Joined}
-use Rattle.parts.proofs.PartLaws.{away-out, part-length, part-frame, part-copied}
+use Rattle.parts.proofs.PartLaws.{away-from, away-out, part-length, part-frame, part-copied}
 
 -- What holds of the m of each item holds of the m of each record.
 held-all : (P : ℕ → Type 0) (a : List ℕ) (h : ℕ) (before rs : List ℕ) → ((x : Recorded) → List·Memᴰ x (held a h before rs) → P (x .item .m)) → All (λ x. P (mWord a x)) rs
@@ -27,14 +28,22 @@ unfolding held
 held-all P a h before [] f = tt
 held-all P a h before (r ∷ rs) f = (f _ (List·Memᴰ·head refl), held-all P a h _ rs (λ x i. f x (List·Memᴰ·tail i)))
 
--- Records that are all inside a range, since none outside it is one of them.
-inside-of : (lo hi : ℕ) (rs : List ℕ) → ((x : ℕ) → ((lo ≤ x) × (x < hi) → ⊥) → Away x rs) → All (λ x. (lo ≤ x) × (x < hi)) rs
-inside-of lo hi [] h = tt
-inside-of lo hi (r ∷ rs) h = (
-  lt-or-ge r lo (λ low. absurd (h r (λ i. let u = i .0 in omega arith) .0 refl))
-      (λ from. lt-or-ge r hi (λ to. (from, to)) (λ high. absurd (h r (λ i. let u = i .1 in omega arith) .0 refl))),
-  inside-of lo hi rs (λ x out. h x out .1),
-)
+-- A property that a record has as soon as it cannot lack it: to be inside a range is one, and to have a given level.
+abbrev Sure : (ℕ → Type 0) → Type 0
+Sure P = (x : ℕ) → ((P x → ⊥) → ⊥) → P x
+
+inside-sure : (lo hi : ℕ) → Sure (λ x. (lo ≤ x) × (x < hi))
+inside-sure lo hi x not-out =
+    lt-or-ge x lo (λ low. absurd (not-out (λ i. let u = i .0 in omega arith)))
+    (λ from. lt-or-ge x hi (λ to. (from, to)) (λ high. absurd (not-out (λ i. let u = i .1 in omega arith))))
+
+level-sure : (levels a : List ℕ) → Sure (λ x. level a x ≡ getD levels (x - 1) 0)
+level-sure levels a x not-other = eq-or-ne (level a x) (getD levels (x - 1) 0) (λ e. e) (λ other. absurd (not-other other))
+
+-- All records of a list have it, since none without it is one of them.
+all-of : (P : ℕ → Type 0) → Sure P → (rs : List ℕ) → ((x : ℕ) → (P x → ⊥) → Away x rs) → All P rs
+all-of P sure [] h = tt
+all-of P sure (r ∷ rs) h = (sure r (λ out. h r out .0 refl), all-of P sure rs (λ x out. h x out .1))
 
 heads-apart : (s t : Bool) (place : ℕ) → place < 63 → cond s olderTurned (firstHead + place) ≡ cond t newerTurned (firstHead + (place + 1)) → ⊥
 heads-apart true true place low e = omega arith
@@ -87,9 +96,17 @@ module _ (levels c : List ℕ) (x y lo mid hi : ℕ) (l k : List Recorded) (p : 
           newer-room = room y mid hi k q newer-suits;
         }
 
+    -- What the records of both lists have, those of the merged list have.
+    merged-all : (d : List ℕ) (m : Merged c d x y 0 (p .list) (q .list)) (P : ℕ → Type 0) → Sure P → All P (p .list) → All P (q .list) → All P (m .list)
+    merged-all d m P sure older newer =
+        all-of P sure (m .list) (λ u out. m .records u (away-from P u (p .list) out older) (away-from P u (q .list) out newer))
+
+    kept-levels : (d : List ℕ) → Merged c d x y 0 (p .list) (q .list) → (low high : ℕ) (rs : List ℕ) → 1 ≤ low → All (λ u. (low ≤ u) × (u < high)) rs → All (λ u. level c u ≡ getD levels (u - 1) 0) rs → All (λ u. level d u ≡ getD levels (u - 1) 0) rs
+    kept-levels d m low high rs some inside levels-are =
+        all-both rs (λ u i e. let from = i .0 in m .level-kept u (λ none. omega arith) ∙ e) inside levels-are
+
     pub merged-part : (d : List ℕ) → Merged c d x y 0 (p .list) (q .list) → Part levels d 0 lo hi (mergeRecorded 0 l k)
     merged-part d m =
-        let some = older-range .some in
         let first = older-range .upward in
         let second = newer-range .upward in
         record {
@@ -97,12 +114,13 @@ module _ (levels c : List ℕ) (x y lo mid hi : ℕ) (l k : List Recorded) (p : 
           built = m .built;
           holds = m .holds ∙ ap₂ (mergeRecorded 0) (p .holds) (q .holds);
           inside =
-              inside-of lo hi (m .list)
-              (λ u out.
-              m .records u (away-out lo mid u (p .list) (λ i. let v = i .1 in out (i .0, omega arith)) (p .inside)) (away-out mid hi u (q .list) (λ i. let v = i .0 in out (omega arith, i .1)) (q .inside)));
-          level-is = λ u v w.
-              m .level-kept u (λ e. omega arith)
-              ∙ lt-or-ge u mid (λ less. p .level-is u v less) (λ more. q .level-is u more w);
+              merged-all d m (λ u. (lo ≤ u) × (u < hi)) (inside-sure lo hi)
+              (all-map (p .list) (λ u i. let to = i .1 in (i .0, omega arith)) (p .inside))
+              (all-map (q .list) (λ u i. let from = i .0 in (omega arith, i .1)) (q .inside));
+          level-is =
+              merged-all d m (λ u. level d u ≡ getD levels (u - 1) 0) (level-sure levels d)
+              (kept-levels d m lo mid (p .list) (older-range .some) (p .inside) (p .level-is))
+              (kept-levels d m mid hi (q .list) (newer-range .some) (q .inside) (q .level-is));
         }
 
 -- The join, call by call.

@@ -1,68 +1,78 @@
--- A gauge that was loaded is a part: its sizes, in the records from its first size's number on, each with its lent level.
+-- A gauge that was loaded is a part: the sizes of its list, each in the record of its number, with its lent level.
 -- The loaded list has no adjusts, so that every p is the true one.
-use mathlib.Core.Path.{_≡_, refl, sym, ap, ap₂, _∙_}
+use mathlib.Core.Path.{_≡_, refl, ap, ap₂, _∙_}
 use mathlib.Core.List.{List, [], _∷_, map}
-use Prim.Native.Nat.{ℕ, zero, suc, _+_, _-_, _≤_, _<_}
+use Prim.Native.Nat.{ℕ, suc, _+_, _-_, _≤_, _<_}
 use native.Mathlib.Omega.{arith}
 use lib.ListN.{length, getD, drop}
 use Rattle.slicing.specs.Item.{Item, size}
 use Rattle.slicing.specs.Tree.{gauge}
-use Rattle.slicing.specs.Recorded.{Recorded, numbered, partRecorded}
-use Rattle.sizes.specs.inside.Sizes.{sizesIn}
-use Rattle.sizes.proofs.SizesIn.{in-length}
+use Rattle.slicing.specs.Useful.{indexOf, gaugeShapes}
+use Rattle.slicing.specs.Recorded.{Recorded, inRecord, gaugeRecorded, partRecorded}
+use Rattle.useful.specs.inside.Order.{listPlaces}
+use Rattle.useful.proofs.Places.{place-inside}
 use Rattle.arena.specs.Arena.{level, mWord, adjust}
 use Rattle.arena.specs.Lazy.{held}
 use Rattle.arena.specs.inside.Chain.{All}
-use Rattle.loading.specs.inside.Loading.{numbers, Loaded}
+use Rattle.loading.specs.inside.Loading.{recordsOf, Loaded}
 use Rattle.arena.specs.inside.Carried.{paired, carried}
 use Rattle.arena.proofs.HeldLaws.{held-carried, carried-sums}
 use Rattle.parts.specs.inside.Part.{Part}
 
-paired-numbered : (b : List ℕ) (r n : ℕ) (z : List Item) → length z ≡ n → map (mWord b) (numbers r n) ≡ map (λ (x : Item). x .m) z → paired b (numbers r n) (map (λ (x : Item). x .p) z) ≡ numbered r z
-unfolding numbers
-paired-numbered b r zero [] e same = refl
-paired-numbered b r zero (x ∷ z) e same = absurd (omega arith)
-paired-numbered b r (suc n) [] e same = absurd (omega arith)
-paired-numbered b r (suc n) (x ∷ z) e same =
-    ap₂ (λ (m : ℕ) (l : List Recorded). record { number = r; item = size m (x .p) } ∷ l) (ap (λ (l : List ℕ). getD l 0 0) same)
-    (paired-numbered b (suc r) n z (omega arith) (ap (drop 1) same))
+-- The records of some sizes z of a gauge s whose first size has record r.
+abbrev recordsIn : ℕ → List Item → List Item → List ℕ
+recordsIn r s z = map (λ (k : ℕ). r + k) (map (λ (x : Item). indexOf x s) z)
 
-pub numbers-inside : (lo r n hi : ℕ) → lo ≤ r → r + n ≤ hi → All (λ x. (lo ≤ x) × (x < hi)) (numbers r n)
-unfolding numbers
-numbers-inside lo r zero hi low high = tt
-numbers-inside lo r (suc n) hi low high = ((low, omega arith), numbers-inside lo (suc r) n hi (omega arith) (omega arith))
+paired-recorded : (b : List ℕ) (r : ℕ) (s z : List Item) → map (mWord b) (recordsIn r s z) ≡ map (λ (x : Item). x .m) z → paired b (recordsIn r s z) (map (λ (x : Item). x .p) z) ≡ map (inRecord r s) z
+paired-recorded b r s [] same = refl
+paired-recorded b r s (x ∷ z) same =
+    ap₂ (λ (m : ℕ) (l : List Recorded). record { number = r + indexOf x s; item = size m (x .p) } ∷ l) (ap (λ (l : List ℕ). getD l 0 0) same)
+    (paired-recorded b r s z (ap (drop 1) same))
 
-numbers-at : (f : ℕ → ℕ) (r n i : ℕ) → i < n → getD (map f (numbers r n)) i 0 ≡ f (r + i)
-unfolding numbers
-numbers-at f r zero i less = absurd (omega arith)
-numbers-at f r (suc n) zero less = ap f (omega arith)
-numbers-at f r (suc n) (suc i) less = numbers-at f (suc r) n i (omega arith) ∙ ap f (omega arith)
+-- Places below n, their records and these records' levels.
+all-at : (P : ℕ → Type 0) (l : List ℕ) → ((i : ℕ) → i < length l → P (getD l i 0)) → All P l
+all-at P [] at = tt
+all-at P (k ∷ l) at = (at 0 (omega arith), all-at P l (λ i less. at (suc i) (omega arith)))
 
-module _ (levels a b : List ℕ) (h done n : ℕ) (bytes lv : List ℕ) (z : List Item) (sized : z ≡ sizesIn n bytes) (own : (i : ℕ) → i < n → getD lv i 0 ≡ getD levels (done + i) 0) (as-many : length lv ≡ n) (d : Loaded a h (done + 1) bytes lv b) where
-  loaded-holds : held b h [] (numbers (done + 1) (length lv)) ≡ numbered (done + 1) z
-  unfolding carried
+places-low : (s : List Item) → All (λ k. k < length s) (listPlaces s)
+places-low s = all-at (λ k. k < length s) (listPlaces s) (place-inside s)
+
+places-inside : (r n : ℕ) (l : List ℕ) → All (λ k. k < n) l → All (λ x. (r ≤ x) × (x < r + n)) (map (λ (k : ℕ). r + k) l)
+places-inside r n [] low = tt
+places-inside r n (k ∷ l) low = let less = low .0 in ((omega arith, omega arith), places-inside r n l (low .1))
+
+pub records-inside : (r : ℕ) (s : List Item) → All (λ x. (r ≤ x) × (x < r + length s)) (recordsOf r s)
+unfolding recordsOf
+records-inside r s = places-inside r (length s) (listPlaces s) (places-low s)
+
+module _ (levels b lv : List ℕ) (done n : ℕ) (own : (i : ℕ) → i < n → getD lv i 0 ≡ getD levels (done + i) 0) where
+  places-levels : (l : List ℕ) → All (λ k. k < n) l → map (level b) (map (λ (k : ℕ). done + 1 + k) l) ≡ map (λ (k : ℕ). getD lv k 0) l → All (λ x. level b x ≡ getD levels (x - 1) 0) (map (λ (k : ℕ). done + 1 + k) l)
+  places-levels [] low same = tt
+  places-levels (k ∷ l) low same = (
+    ap (λ (x : List ℕ). getD x 0 0) same ∙ own k (low .0) ∙ ap (λ (i : ℕ). getD levels i 0) (omega arith),
+    places-levels l (low .1) (ap (drop 1) same),
+  )
+
+module _ (levels a b : List ℕ) (h done : ℕ) (lv : List ℕ) (s : List Item) (own : (i : ℕ) → i < length s → getD lv i 0 ≡ getD levels (done + i) 0) (d : Loaded a h (done + 1) s lv b) where
+  loaded-holds : held b h [] (recordsOf (done + 1) s) ≡ gaugeRecorded (done + 1) s
+  unfolding carried recordsOf listPlaces gaugeRecorded
   loaded-holds =
-      held-carried b h (numbers (done + 1) (length lv))
-      ∙ carried-sums b (λ k. 0) (adjust b h) (numbers (done + 1) (length lv)) (d .built .still)
-      ∙ ap (paired b (numbers (done + 1) (length lv))) (d .true-p)
-      ∙ paired-numbered b (done + 1) (length lv) (sizesIn (length lv) bytes) (in-length (length lv) bytes) (d .m-is)
-      ∙ ap (numbered (done + 1)) (ap (λ (k : ℕ). sizesIn k bytes) as-many ∙ sym sized)
+      held-carried b h (recordsOf (done + 1) s)
+      ∙ carried-sums b (λ k. 0) (adjust b h) (recordsOf (done + 1) s) (d .built .still)
+      ∙ ap (paired b (recordsOf (done + 1) s)) (d .true-p)
+      ∙ paired-recorded b (done + 1) s (gaugeShapes s) (d .m-is)
 
-  loaded-level : (x : ℕ) → done + 1 ≤ x → x < done + 1 + n → level b x ≡ getD levels (x - 1) 0
-  loaded-level x low high =
-      let place : x ≡ done + 1 + (x - (done + 1)) = omega arith in
-      ap (level b) place ∙ sym (numbers-at (level b) (done + 1) (length lv) (x - (done + 1)) (omega arith))
-      ∙ ap (λ (l : List ℕ). getD l (x - (done + 1)) 0) (d .level-is)
-      ∙ own (x - (done + 1)) (omega arith)
-      ∙ ap (λ (i : ℕ). getD levels i 0) (omega arith)
+  loaded-levels : All (λ x. level b x ≡ getD levels (x - 1) 0) (recordsOf (done + 1) s)
+  unfolding recordsOf
+  loaded-levels = places-levels levels b lv done (length s) own (listPlaces s) (places-low s) (d .level-is)
 
-  pub loaded-part : Part levels b h (done + 1) (done + 1 + n) (partRecorded 0 (done + 1) (gauge z))
+  pub loaded-part : Part levels b h (done + 1) (done + 1 + length s) (partRecorded 0 (done + 1) (gauge s))
   unfolding partRecorded
   loaded-part =
       record {
-        list = numbers (done + 1) (length lv);
+        list = recordsOf (done + 1) s;
         built = d .built;
         holds = loaded-holds;
-        inside = numbers-inside (done + 1) (done + 1) (length lv) (done + 1 + n) (omega arith) (omega arith);
-        level-is = loaded-level;
+        inside = records-inside (done + 1) s;
+        level-is = loaded-levels;
       }

@@ -1,7 +1,8 @@
 -- A part's list stands as long as its head and the records of its range do, and goes with its head to another record.
 -- Everything said of a part is said of the words of these records.
 use mathlib.Core.Path.{_≡_, sym, ap, subst, _∙_}
-use mathlib.Core.List.{List, []}
+use mathlib.Core.List.{List, [], _∷_, List·Memᴰ, List·Memᴰ·not-nil, List·Memᴰ·cases-cons}
+use mathlib.Core.Logic.{⊎-elim}
 use Prim.Native.Nat.{ℕ, _+_, _-_, _≤_, _<_}
 use native.Mathlib.Omega.{arith}
 use lib.ListN.{length, getD}
@@ -10,17 +11,32 @@ use Rattle.arena.specs.Arena.{stride, word, level, adjust, levelAt, forwardAt, 
 use Rattle.arena.specs.Lazy.{held}
 use Rattle.arena.specs.inside.Chain.{Has, All, Away, Same}
 use Rattle.arena.specs.inside.Built.{Built}
-use Rattle.arena.proofs.Frames.{all-map, same-shape, next-frame, chain-frame}
+use Rattle.arena.proofs.Frames.{all-map, all-both, same-shape, next-frame, chain-frame}
 use Rattle.arena.proofs.ListLaws.{held-length}
 use Rattle.arena.proofs.HeldLaws.{held-carried}
 use Rattle.arena.proofs.CarriedLaws.{carried-same}
 use Rattle.parts.specs.inside.Part.{Part}
 use Rattle.parts.specs.inside.Copying.{Copied}
 
--- A record outside the range is none of the list.
+-- A record without what all records of a list have is none of them, and so is one outside their range.
+pub away-from : (P : ℕ → Type 0) (x : ℕ) (rs : List ℕ) → (P x → ⊥) → All P rs → Away x rs
+away-from P x rs out all = all-map rs (λ y p e. out (subst P e p)) all
+
 pub away-out : (lo hi x : ℕ) (rs : List ℕ) → ((lo ≤ x) × (x < hi) → ⊥) → All (λ y. (lo ≤ y) × (y < hi)) rs → Away x rs
-away-out lo hi x rs out inside =
-    all-map rs (λ y i e. out (subst (λ (z : ℕ). (lo ≤ z) × (z < hi)) e i)) inside
+away-out lo hi = away-from (λ y. (lo ≤ y) × (y < hi))
+
+-- What holds of each record of a list holds of the number of each item.
+held-number : (P : ℕ → Type 0) (a : List ℕ) (h : ℕ) (before rs : List ℕ) → All P rs → (x : Recorded) → List·Memᴰ x (held a h before rs) → P (x .number)
+unfolding held
+held-number P a h before [] all x i = absurd (List·Memᴰ·not-nil i)
+held-number P a h before (r ∷ rs) all x i =
+    ⊎-elim (λ (e : x ≡ _). subst (λ (y : Recorded). P (y .number)) (sym e) (all .0))
+    (λ (j : List·Memᴰ x _). held-number P a h _ rs (all .1) x j) (List·Memᴰ·cases-cons i)
+
+pub part-level : (levels a : List ℕ) (h lo hi : ℕ) (l : List Recorded) → Part levels a h lo hi l → (x : Recorded) → List·Memᴰ x l → level a (x .number) ≡ getD levels (x .number - 1) 0
+part-level levels a h lo hi l p x i =
+    held-number (λ r. level a r ≡ getD levels (r - 1) 0) a h [] (p .list) (p .level-is) x
+    (subst (λ (k : List Recorded). List·Memᴰ x k) (sym (p .holds)) i)
 
 module _ (levels a b : List ℕ) (h lo hi : ℕ) (l : List Recorded) (p : Part levels a h lo hi l) where
   pub part-length : length (p .list) ≡ length l
@@ -31,8 +47,8 @@ module _ (levels a b : List ℕ) (h lo hi : ℕ) (l : List Recorded) (p : Part l
     list-same : All (Same a b) (p .list)
     list-same = all-map (p .list) (λ x i. same x (i .0) (i .1)) (p .inside)
 
-    levels-same : (x : ℕ) → lo ≤ x → x < hi → level b x ≡ getD levels (x - 1) 0
-    levels-same x u v = same x u v .at levelAt (omega arith) ∙ p .level-is x u v
+    levels-same : All (λ x. level b x ≡ getD levels (x - 1) 0) (p .list)
+    levels-same = all-both (p .list) (λ x (s : Same a b x) e. s .at levelAt (omega arith) ∙ e) list-same (p .level-is)
 
     module _ (k : ℕ) (words : (j : ℕ) → j < stride → word b k j ≡ word a h j) where
       moved-sums : (i : ℕ) → i < 8 → adjust b k i ≡ adjust a h i

@@ -1,12 +1,13 @@
 -- What the loop over the entries keeps: the parts of the stack stand in the arena, and the array has their kinds.
 -- A gauge is loaded after all that is there, and a join takes the last two parts off and puts one in their place.
 use mathlib.Core.Path.{_≡_, refl, sym, ap, ap₂, subst, _∙_}
-use mathlib.Core.Bool.{Bool}
+use mathlib.Core.Bool.{Bool, false, not}
 use mathlib.Core.List.{List, [], _∷_}
 use Prim.Native.Nat.{ℕ, suc, _+_, _-_, _≤_, _<_}
 use native.Mathlib.Numerals.{add-one}
 use native.Mathlib.Omega.{arith}
 use lib.ListN.{length, getD, set, take, drop, length-append, length-drop}
+use borrow.Author.Tests.{not-false}
 use lib.Seq.{getD-take, getD-drop, length-take-le}
 use Rattle.checks.specs.Limits.{bufferWords}
 use Rattle.checks.specs.Answer.{taken}
@@ -19,9 +20,12 @@ use Rattle.slicing.proofs.Depths.{depth-few}
 use Rattle.facefile.specs.declared.walk.GaugeEntry.{GaugeEntry}
 use Rattle.facefile.specs.declared.walk.Entry.{Entry}
 use Rattle.facefile.specs.declared.walk.Entry.the-variants.{Gauge, Join}
-use Rattle.facefile.specs.Format.{faceOf}
+use Rattle.facefile.specs.Format.{faceOf, rulesOf}
 use Rattle.entries.specs.inside.Kinds.{kindOf, Cut, across}
+use Rattle.sizes.specs.Rules.{asksOrder}
 use Rattle.sizes.specs.inside.Sizes.{sizesIn}
+use Rattle.useful.specs.inside.Order.{GaugeBytes, orderWord, countingWord}
+use Rattle.useful.proofs.FirstDigits.{first-word}
 use Rattle.entries.specs.inside.Tracking.{flat}
 use Rattle.facefile.specs.inside.Walk.{firstEntry, sizeBytesOf, GaugeAt, JoinAt, Finds}
 use Rattle.sizes.proofs.SizesIn.{in-length}
@@ -30,14 +34,14 @@ use Rattle.facefile.proofs.PartArray.{Column, column-start, column-push, column
 use Rattle.facefile.proofs.WalkSteps.{walk-end, found-gauge, found-join}
 use Rattle.facefile.proofs.WalkStack.{walk-sizes, walk-face, join-good, join-gauges, Counted, counted-start, counted-room, counted-gauge, counted-two, counted-below, counted-join}
 use Rattle.arena.specs.inside.Chain.{Away}
-use Rattle.loading.specs.inside.Loading.{numbers, Loadable, Loaded}
+use Rattle.loading.specs.inside.Loading.{recordsOf, Loadable, Loaded}
 use Rattle.parts.specs.inside.Part.{firstHead, headOf, Part, Suits, Parts}
 use Rattle.parts.specs.inside.Copying.{Copied}
 use Rattle.parts.specs.inside.Joining.{turnedIf, Joinable, Joined}
 use Rattle.parts.specs.inside.Building.{Buildable, Whole}
 use Rattle.parts.proofs.PartLaws.{away-out, part-copied}
 use Rattle.parts.proofs.PartStack.{parts-some, parts-total, parts-frame}
-use Rattle.parts.proofs.LoadedPart.{numbers-inside, loaded-part}
+use Rattle.parts.proofs.LoadedPart.{records-inside, loaded-part}
 use Rattle.parts.proofs.FacingLists.{faces-suit, cut-part, cut-sizes, cut-kind}
 
 pub record Standing (file levels a₀ a kinds : List ℕ) (at parts done : ℕ) : Type 0 where
@@ -48,6 +52,10 @@ pub record Standing (file levels a₀ a kinds : List ℕ) (at parts done : ℕ) 
   pub length-kept : length a ≡ length a₀
   pub kinds-held : Column kindOf kinds stack
   pub stands : Parts levels a stack (done + 1)
+
+-- A taken file has its header.
+pub file-headed : (file levels a : List ℕ) → Buildable file levels a → firstEntry ≤ length file
+file-headed file levels a ready = counted-start file (ready .tree) (ready .face) .walk .inside
 
 pub standing-start : (file levels a kinds : List ℕ) → Buildable file levels a → length kinds ≡ 64 → Standing file levels a a kinds firstEntry 0 0
 standing-start file levels a kinds ready long =
@@ -113,14 +121,24 @@ module _ (file levels a₀ a kinds : List ℕ) (at parts done : ℕ) (k : Standi
       own-at : (i : ℕ) → i < g .count → getD own i 0 ≡ getD levels (done + i) 0
       own-at i less = getD-take (done + g .count - done) (drop done levels) i 0 (omega arith) ∙ getD-drop done levels i 0
 
-      pub gauge-loads : Loadable a (firstHead + parts) (done + 1) bytes own
-      gauge-loads =
+      -- The word of the gauge's list can be asked for, and the list loaded by it.
+      pub gauge-bytes : GaugeBytes (g .count) bytes
+      gauge-bytes = record { sized = here .sized; some = here .some; few = here .few }
+
+      -- The sizes of a gauge that was asked for its order stand in order.
+      pub gauge-in-order : (known : Bool) → known ≡ asksOrder (rulesOf file) → not known ≡ false → (word : ℕ) → word ≡ countingWord (g .count) → word ≡ orderWord sizes
+      gauge-in-order known known-is asked word word-is =
+          first-word (g .count) bytes word (here .order (sym known-is ∙ not-false known asked)) word-is
+
+      pub gauge-loads : (order : ℕ) → order ≡ orderWord sizes → Loadable a (firstHead + parts) (done + 1) bytes own order
+      gauge-loads order order-is =
           let long = standing-long in
           let room = gauge-room in
           let l = levels-left in
           let records = records-left in
           let many = own-long in
           let sized = here .sized in
+          let few = here .few in
           record {
             head-has = omega arith;
             some = omega arith;
@@ -130,17 +148,22 @@ module _ (file levels a₀ a kinds : List ℕ) (at parts done : ℕ) (k : Standi
             low = λ i less. subst (λ (v : ℕ). 1 ≤ v) (sym (own-at i (omega arith))) (k .ready .low (done + i) (omega arith));
             high = λ i less. subst (λ (v : ℕ). v ≤ 8) (sym (own-at i (omega arith))) (k .ready .high (done + i) (omega arith));
             bytes = omega arith;
+            few = omega arith;
+            order-is = order-is ∙ ap (λ (n : ℕ). orderWord (sizesIn n bytes)) (sym own-long);
           }
 
       -- The parts below stand as they did, and the gauge on them.
-      module _ (b : List ℕ) (d : Loaded a (firstHead + parts) (done + 1) bytes own b) where
+      module _ (b : List ℕ) (got : Loaded a (firstHead + parts) (done + 1) (sizesIn (length own) bytes) own b) where
+        d : Loaded a (firstHead + parts) (done + 1) sizes own b
+        d = subst (λ (n : ℕ). Loaded a (firstHead + parts) (done + 1) (sizesIn n bytes) own b) own-long got
+
         abbrev loaded : List ℕ
-        loaded = numbers (done + 1) (length own)
+        loaded = recordsOf (done + 1) sizes
 
         away : (x : ℕ) → ((done + 1 ≤ x) × (x < done + 1 + g .count) → ⊥) → Away x loaded
         away x out =
-            let many = own-long in
-            away-out (done + 1) (done + 1 + g .count) x loaded out (numbers-inside (done + 1) (done + 1) (length own) (done + 1 + g .count) (omega arith) (omega arith))
+            let many = in-length (g .count) bytes in
+            away-out (done + 1) (done + 1 + length sizes) x loaded (λ i. let less = i .1 in out (i .0, omega arith)) (records-inside (done + 1) sizes)
 
         below : Parts levels b (k .stack) (done + 1)
         below =
@@ -155,8 +178,9 @@ module _ (file levels a₀ a kinds : List ℕ) (at parts done : ℕ) (k : Standi
         on-top : Part levels b (headOf (length (k .stack))) (done + 1) (done + g .count + 1) (partRecorded 0 (done + 1) (gauge sizes))
         on-top =
             let head : firstHead + parts ≡ headOf (length (k .stack)) = ap (λ (i : ℕ). firstHead + i) (sym (k .walked .count)) in
-            let end : done + 1 + g .count ≡ done + g .count + 1 = omega arith in
-            rw (← head, ← end) (loaded-part levels a b (firstHead + parts) done (g .count) bytes own sizes refl own-at own-long d)
+            let many = in-length (g .count) bytes in
+            let end : done + 1 + length sizes ≡ done + g .count + 1 = omega arith in
+            rw (← head, ← end) (loaded-part levels a b (firstHead + parts) done own sizes (λ i less. own-at i (omega arith)) d)
 
         pub standing-gauge : (l : List ℕ) → l ≡ set kinds parts 0x01 → Standing file levels a₀ b l (g .next) (parts + 1) (done + g .count)
         standing-gauge l stored =

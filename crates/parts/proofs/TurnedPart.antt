@@ -1,18 +1,18 @@
 -- A part that was turned is a part of the turned items, at its new head.
 -- The turned records have the true p as m and the m as p, in the order reversed, and no adjust covers them.
-use mathlib.Core.Path.{_≡_, refl, sym, ap, subst, _∙_}
+use mathlib.Core.Path.{_≡_, refl, sym, ap, _∙_}
 use mathlib.Core.Bool.{Bool, true, false}
 use mathlib.Core.List.{List, [], _∷_, map, reverse, reverseAux}
-use Prim.Native.Nat.{ℕ, _≤_, _<_}
+use Prim.Native.Nat.{ℕ, _-_, _≤_, _<_}
 use native.Mathlib.Omega.{arith}
-use lib.ListN.{length, length-map}
+use lib.ListN.{length, getD, length-map}
 use Rattle.slicing.specs.Item.{size}
 use Rattle.slicing.specs.Recorded.{Recorded, swapRecorded, turnRecorded}
-use Rattle.arena.specs.Arena.{level, mWord, adjust, levelAt}
+use Rattle.arena.specs.Arena.{level, mWord, adjust}
 use Rattle.arena.specs.Lazy.{held}
-use Rattle.arena.specs.inside.Chain.{All, Away}
+use Rattle.arena.specs.inside.Chain.{All}
 use Rattle.turning.specs.inside.Turning.{Turnable, Turned}
-use Rattle.arena.proofs.Cases.{eq-or-ne}
+use Rattle.arena.proofs.Frames.{all-both}
 use Rattle.arena.proofs.PutLaws.{same-refl}
 use Rattle.arena.specs.inside.Carried.{paired, carried}
 use Rattle.arena.proofs.HeldLaws.{held-carried, carried-sums}
@@ -35,12 +35,6 @@ all-back : (P : ℕ → Type 0) (rs xs : List ℕ) → All P rs → All P xs →
 all-back P [] xs p q = q
 all-back P (r ∷ rs) xs p q = all-back P rs (r ∷ xs) (p .1) (p .0, q)
 
--- What holds of the records of a list, and of one that is none of them.
-either-way : (P : ℕ → Type 0) (x : ℕ) (rs : List ℕ) → All P rs → (Away x rs → P x) → P x
-either-way P x [] all out = out tt
-either-way P x (r ∷ rs) all out =
-    eq-or-ne r x (λ e. subst P e (all .0)) (λ ne. either-way P x rs (all .1) (λ away. out (ne, away)))
-
 turned-holds : (a b : List ℕ) (h k : ℕ) (rs : List ℕ) → Turned a h k rs b → held b k [] (reverse rs) ≡ turnRecorded (held a h [] rs)
 unfolding turnRecorded carried
 turned-holds a b h k rs t =
@@ -50,17 +44,16 @@ turned-holds a b h k rs t =
     ∙ ap reverse (paired-swap a b rs ∙ ap (λ (ps : List ℕ). map swapRecorded (paired a rs ps)) (t .m-is))
     ∙ ap (λ (l : List Recorded). reverse (map swapRecorded l)) (sym (held-carried a h rs))
 
-part-turned : (levels a b : List ℕ) (h k lo hi : ℕ) (l : List Recorded) (p : Part levels a h lo hi l) → (hi ≤ k) → Turned a h k (p .list) b → Part levels b k lo hi (turnRecorded l)
-part-turned levels a b h k lo hi l p high t =
+part-turned : (levels a b : List ℕ) (h k lo hi : ℕ) (l : List Recorded) (p : Part levels a h lo hi l) → Turned a h k (p .list) b → Part levels b k lo hi (turnRecorded l)
+part-turned levels a b h k lo hi l p t =
     record {
       list = reverse (p .list);
       built = t .built;
       holds = turned-holds a b h k (p .list) t ∙ ap turnRecorded (p .holds);
       inside = all-back (λ x. (lo ≤ x) × (x < hi)) (p .list) [] (p .inside) tt;
-      level-is = λ x u v.
-          either-way (λ y. level b y ≡ level a y) x (p .list) (t .levels)
-          (λ away. t .outside x (λ e. omega arith) away .at levelAt (omega arith))
-          ∙ p .level-is x u v;
+      level-is =
+          all-back (λ x. level b x ≡ getD levels (x - 1) 0) (p .list) []
+          (all-both (p .list) (λ x same e. same ∙ e) (t .levels) (p .level-is)) tt;
     }
 
 module _ (levels a : List ℕ) (h spare lo hi : ℕ) (l : List Recorded) (g : Turns levels a h spare lo hi l) where
@@ -80,12 +73,10 @@ module _ (levels a : List ℕ) (h spare lo hi : ℕ) (l : List Recorded) (g : Tu
 
   pub facing-turned : (b : List ℕ) → Turned a h spare (g .part .list) b → Faces levels a b h spare lo hi l true spare
   facing-turned b t =
-      let high = g .spare-high in
-      let most = g .ranged .most in
       record {
         length-kept = t .long;
         head = refl;
-        part = part-turned levels a b h spare lo hi l (g .part) (omega arith) t;
+        part = part-turned levels a b h spare lo hi l (g .part) t;
         outside = λ x other out. t .outside x other (away-out lo hi x (g .part .list) out (g .part .inside));
       }
 

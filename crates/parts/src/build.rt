@@ -10,8 +10,11 @@ use crate::heads::copy_head;
 use crate::join::join;
 use facefile::walk::Entry;
 use facefile::walk::FIRST_ENTRY;
+use facefile::walk::asks_order;
 use facefile::walk::entry_at;
 use loading::load::load;
+use useful::order::in_order;
+use useful::order::order;
 
 // Builds the list of the whole face at record 0, each record with its lent level, and answers the kind of the face's
 // last entry. The parts that wait for their join stand on a stack: the heads of their lists, and their kinds.
@@ -19,6 +22,7 @@ pub fn build(file: &[u8], levels: &[u8], arena: &mut [u32]) -> u8
     requires { ⌜ Buildable (now file) (now levels) (now arena) ⌝ }
     ensures { λ kind. ⌜ ((t : Tree) → faceOf (now (file .entry)) ≡ taken t → Whole (now (file .entry)) (now (levels .entry)) (now (arena .entry)) (now (arena .exit)) kind t) ⌝ }
 {
+    let known = asks_order(file);
     let mut kinds = [0u8; 64];
     let mut at = FIRST_ENTRY;
     let mut parts = 0;
@@ -29,13 +33,13 @@ pub fn build(file: &[u8], levels: &[u8], arena: &mut [u32]) -> u8
                 let from = g.from;
                 let to = g.to;
                 let end = size + g.count;
-                load(
-                    arena,
-                    FIRST + parts,
-                    size + 1,
-                    &file[from..to],
-                    &levels[size..end],
-                );
+                let sizes = &file[from..to];
+                let own = &levels[size..end];
+                let mut named = in_order(g.count);
+                if !known {
+                    named = order(sizes, g.count);
+                }
+                load(arena, FIRST + parts, size + 1, sizes, own, named);
                 kinds[parts] = entries::GAUGE;
                 parts += 1;
                 size = end;

@@ -14,7 +14,7 @@ use Rattle.slicing.specs.Good.{Ordered}
 use Rattle.slicing.specs.Shapes.{shapes}
 use Rattle.slicing.specs.Recorded.{Recorded, items, partRecorded}
 use Rattle.slicing.proofs.RecordedLaws.{items-turn, items-shapes}
-use Rattle.slicing.proofs.PartLists.{part-gauge, part-beside, shapes-stacked, part-ordered, part-few, part-numbers}
+use Rattle.slicing.proofs.PartLists.{part-gauge, part-beside, shapes-stacked, part-ordered, part-few}
 use Rattle.slicing.proofs.TurnLaws.{turn-length}
 use Rattle.facefile.specs.Format.{faceOf}
 use Rattle.facefile.proofs.Taken.{face-taken}
@@ -24,7 +24,7 @@ use Rattle.arena.proofs.ListLaws.{held-length}
 use Rattle.maxplus.proofs.Holds.{holds-lazy}
 use Rattle.entries.specs.inside.Kinds.{kindOf}
 use Rattle.parts.specs.inside.Building.{Whole}
-use Rattle.parts.proofs.PartLaws.{part-length}
+use Rattle.parts.proofs.PartLaws.{part-length, part-level}
 use Rattle.lent.specs.Lent.{writtenOver}
 use Rattle.shapes.specs.Listing.{RootList}
 use Rattle.writing.specs.Words.{listWords}
@@ -69,7 +69,7 @@ module _ (file levels a b out : List ℕ) (kind : ℕ) (t : Tree) (face : faceOf
             holds-lazy b list (w .part .built .linked) (all-map list (λ x i. let u = i .1 in omega arith) (w .part .inside)) few-records
             (subst (λ (l : List Recorded). Ordered (items l)) (sym (w .part .holds)) (part-ordered 0 1 t (face-taken file t face .good)))
             ∙ ap taken (w .part .holds);
-        level-is = λ x i. let r = part-numbers 0 1 t x i in w .part .level-is (x .number) (r .0) (r .1);
+        level-is = part-level levels b 0 1 (1 + sizeCount t) (partRecorded 0 1 t) (w .part);
       }
 
   -- What each way of writing leaves.

@@ -31,13 +31,13 @@ newerTurned = olderTurned + 1
 abbrev pub lastHead : ℕ
 lastHead = newerTurned
 
--- The head h has the items l, in records from lo up to hi. Each record of that range, on the list or not, has its lent level.
+-- The head h has the items l, in records from lo up to hi, each with its lent level.
 pub record Part (levels a : List ℕ) (h lo hi : ℕ) (l : List Recorded) : Type 0 where
   pub list : List ℕ
   pub built : Built a h list
   pub holds : held a h [] list ≡ l
   pub inside : All (λ x. (lo ≤ x) × (x < hi)) list
-  pub level-is : (x : ℕ) → lo ≤ x → x < hi → level a x ≡ getD levels (x - 1) 0
+  pub level-is : All (λ x. level a x ≡ getD levels (x - 1) 0) list
 
 -- A list that can be merged: ordered, with no number above 64 times 1,000, and not too long.
 pub record Suits (l : List Recorded) : Type 0 where

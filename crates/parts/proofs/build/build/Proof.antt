@@ -1,19 +1,24 @@
 -- `parts::build::build` meets its contract.
 -- The loop keeps `Standing`, that the parts of the stack stand in the arena; the measure is the bytes left.
+use mathlib.Core.Path.{_∙_}
+use mathlib.Core.Logic.{⊎-elim}
 use Prim.Native.Nat.{_-_}
 use native.Mathlib.Omega.{arith}
 use lib.ListN.{length}
 use borrow.Author.Needs.{needs}
 use Rattle.facefile.proofs.WalkSteps.{gauge-upward, gauge-inside, gauge-less, join-less}
-use Rattle.parts.proofs.Standing.{Standing, standing-long, standing-start, gauge-room, levels-left, records-left, gauge-loads, standing-gauge, join-parts, join-some, join-ready, standing-join, standing-whole}
+use Rattle.parts.proofs.Standing.{Standing, standing-long, file-headed, standing-start, gauge-room, levels-left, records-left, gauge-bytes, gauge-in-order, gauge-loads, standing-gauge, join-parts, join-some, join-ready, standing-join, standing-whole}
 use Rattle.parts.proofs.build.build.Statement.{statement}
 use Rattle.parts.proofs.build.build.Tie as tie
 
 abbrev Inv-loop : tie.InvT-loop
-Inv-loop file levels arena₀ kinds₀ at₀ parts₀ size₀ arena kinds at parts size = Standing file levels arena₀ arena kinds at parts size
+Inv-loop file levels arena₀ known kinds₀ at₀ parts₀ size₀ arena kinds at parts size = Standing file levels arena₀ arena kinds at parts size
 
 abbrev μ-loop : tie.MeasureT-loop
-μ-loop file levels arena₀ kinds₀ at₀ parts₀ size₀ arena kinds at parts size = length file - at
+μ-loop file levels arena₀ known kinds₀ at₀ parts₀ size₀ arena kinds at parts size = length file - at
+
+asks-order-requires : tie.Need-asks-order-requires Inv-loop μ-loop
+asks-order-requires c κs = search (needs, file-headed)
 
 loop-holds : tie.Need-loop-holds Inv-loop μ-loop
 loop-holds c = search (needs, standing-start)
@@ -31,32 +36,56 @@ add-end c =
     let left = records-left _ _ _ _ _ _ _ _ (at-entry .before .before .loop .inv) _ (at-entry .entry-at .ensures) _ (at-match .g .given .1) in
     record { fits = omega arith }
 
+sub-sizes : tie.Need-sub-sizes Inv-loop μ-loop
+sub-sizes c = search (needs, gauge-upward)
+
+part-sizes-start : tie.Need-part-sizes-start Inv-loop μ-loop
+part-sizes-start c = search (needs, gauge-upward)
+
+part-sizes-end : tie.Need-part-sizes-end Inv-loop μ-loop
+part-sizes-end c = search (needs, gauge-inside)
+
+sub-own : tie.Need-sub-own Inv-loop μ-loop
+sub-own c = search needs
+
+part-own-start : tie.Need-part-own-start Inv-loop μ-loop
+part-own-start c = search needs
+
+part-own-end : tie.Need-part-own-end Inv-loop μ-loop
+part-own-end c = search (needs, levels-left)
+
+in-order-requires : tie.Need-in-order-requires Inv-loop μ-loop
+in-order-requires c κs =
+    let at-match = c .before .before .before .before in
+    let at-entry = at-match .before .before in
+    let bytes = gauge-bytes _ _ _ _ _ _ _ _ (at-entry .before .before .loop .inv) _ (at-entry .entry-at .ensures) _ (at-match .g .given .1) in
+    (bytes .some, bytes .few)
+
+order-requires : tie.Need-order-requires Inv-loop μ-loop
+order-requires c κs =
+    let at-match = c .before .before .before .before .before .before in
+    let at-entry = at-match .before .before in
+    gauge-bytes _ _ _ _ _ _ _ _ (at-entry .before .before .loop .inv) _ (at-entry .entry-at .ensures) _ (at-match .g .given .1)
+
 add-load : tie.Need-add-load Inv-loop μ-loop
 add-load c = search needs
 
 add-load-2 : tie.Need-add-load-2 Inv-loop μ-loop
 add-load-2 c = search needs
 
-sub-load : tie.Need-sub-load Inv-loop μ-loop
-sub-load c = search (needs, gauge-upward)
-
-part-load-start : tie.Need-part-load-start Inv-loop μ-loop
-part-load-start c = search (needs, gauge-upward)
-
-part-load-end : tie.Need-part-load-end Inv-loop μ-loop
-part-load-end c = search (needs, gauge-inside)
-
-sub-load-2 : tie.Need-sub-load-2 Inv-loop μ-loop
-sub-load-2 c = search needs
-
-part-load-start-2 : tie.Need-part-load-start-2 Inv-loop μ-loop
-part-load-start-2 c = search needs
-
-part-load-end-2 : tie.Need-part-load-end-2 Inv-loop μ-loop
-part-load-end-2 c = search (needs, levels-left)
-
 load-requires : tie.Need-load-requires Inv-loop μ-loop
-load-requires c κs = search (needs, gauge-loads)
+load-requires c κs =
+    let at-if = c .before in
+    let at-in-order = at-if .before in
+    let at-match = at-in-order .before .before .before .before .before in
+    let at-entry = at-match .before .before in
+    let at-loop = at-entry .before .before in
+    let standing = at-loop .loop .inv in
+    let found = at-entry .entry-at .ensures in
+    let is-gauge = at-match .g .given .1 in
+    let asked = at-loop .before .asks-order .ensures in
+    let word = ⊎-elim (λ w. w .2 ∙ w .1 .ensures) (λ w. gauge-in-order _ _ _ _ _ _ _ _ standing _ found _ is-gauge _ asked (w .0 .left) _ (w .1 ∙ at-in-order .in-order .ensures)) (at-if .if1 .came) in
+    gauge-loads _ _ _ _ _ _ _ _ standing _ found _ is-gauge _ word
 
 array-write-kinds : tie.Need-array-write-kinds Inv-loop μ-loop
 array-write-kinds c = search (needs, gauge-room)
@@ -129,18 +158,21 @@ build-spec =
     (tie.spec
     Inv-loop
     μ-loop
+    asks-order-requires
     loop-holds
     entry-at-requires
     enum-known-g
     add-end
+    sub-sizes
+    part-sizes-start
+    part-sizes-end
+    sub-own
+    part-own-start
+    part-own-end
+    in-order-requires
+    order-requires
     add-load
     add-load-2
-    sub-load
-    part-load-start
-    part-load-end
-    sub-load-2
-    part-load-start-2
-    part-load-end-2
     load-requires
     array-write-kinds
     add-parts
