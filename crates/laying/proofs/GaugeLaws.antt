@@ -1,21 +1,25 @@
 -- A stored part that can be laid out, and the layout of a gauge: its five words.
--- The word read is that of the gauge's own size, whose number is its place in the list, and five stores leave the words after them.
-use mathlib.Core.Path.{_≡_, refl, sym, ap, _∙_}
+-- The word read is that of an item of the gauge's list, which is the printed size of the number read, and five stores leave the words after them.
+use mathlib.Core.Path.{_≡_, refl, sym, ap, ap₂, _∙_}
 use mathlib.Core.List.{List, [], _∷_}
-use Prim.Native.Nat.{ℕ, _+_, _*_, _/_, _%_, _^_, _≤_, _<_}
+use Prim.Native.Nat.{ℕ, _+_, _*_, _/_, _%_, _≤_, _<_}
 use native.Mathlib.Omega.{arith}
 use lib.ListN.{length, getD, set, drop}
-use Rattle.slicing.specs.Item.{size, height, width}
+use Rattle.slicing.specs.Item.{Item, size, height, width}
+use Rattle.slicing.specs.Useful.{indexOf, gaugeShapes}
 use Rattle.slicing.specs.Tree.{Tree, gauge, beside, stacked, gaugeCount}
 use Rattle.slicing.specs.Good.{Good}
 use Rattle.slicing.specs.Shapes.{shapes}
 use Rattle.slicing.specs.Fit.{place}
+use Rattle.slicing.proofs.ByPlace.{at-index}
+use Rattle.slicing.proofs.Indexes.{index-found}
+use Rattle.slicing.proofs.GaugeUseful.{gauge-useful}
 use Rattle.packed.specs.inside.Packed.{pack}
 use Rattle.packed.proofs.StoredLists.{m-is, p-is}
 use Rattle.stored.specs.inside.Store.{Stored}
-use Rattle.laying.specs.inside.Laying.{shapeAt, Layable, laid}
-use Rattle.laying.proofs.OrderLaws.{index-at}
+use Rattle.laying.specs.inside.Laying.{shapeAt, GaugePlace, Layable, laid}
 use Rattle.laying.proofs.StretchLaws.{table-inside}
+use Rattle.laying.proofs.SizeNumbers.{AtPlace, NumberIs}
 use Rattle.laying.proofs.ShapeReading.{Place, shape-low}
 
 -- The word of the item at the place of the part's list.
@@ -49,35 +53,40 @@ module _ {s : List ℕ} {part gauges k x y : ℕ} {out : List ℕ} where
   pub ready-item : Ready s part gauges k x y out → Place s part k
   ready-item pre = (pre .0, pre .1 .stored, pre .1 .in-list)
 
+  gauge-stored : (sizes : List Item) → Layable s part (gauge sizes) gauges k x y out → GaugePlace s part sizes k
+  unfolding shapes
+  gauge-stored sizes h = record { stored = h .stored; few = h .good .few; in-list = h .in-list }
+
   -- At a gauge, by the kind that is read of the table.
   module _ {kind : ℕ} (kind-is : kind ≡ getD s (4 * part + 2) 0) (one : kind ≡ 1) where
-    gauge-fits : (t : Tree) → Layable s part t gauges k x y out → (5 ≤ length out) × (k + 1 < 2 ^ 32)
-    unfolding shapes
-    gauge-fits (gauge z) h =
-        let room = h .room in
-        let inside = h .in-list in
-        let few = h .good .few in (omega arith, omega arith)
-    gauge-fits (beside a b) h = let same = h .stored .0 .kind-is in absurd (omega arith)
-    gauge-fits (stacked a b) h = let same = h .stored .0 .kind-is in absurd (omega arith)
+    gauge-at : (t : Tree) → Layable s part t gauges k x y out → (5 ≤ length out) × AtPlace s part k
+    gauge-at (gauge sizes) h = let room = h .room in (omega arith, (sizes, gauge-stored sizes h))
+    gauge-at (beside a b) h = let same = h .stored .0 .kind-is in absurd (omega arith)
+    gauge-at (stacked a b) h = let same = h .stored .0 .kind-is in absurd (omega arith)
 
-    pub gauge-room : Ready s part gauges k x y out → (5 ≤ length out) × (k + 1 < 2 ^ 32)
-    gauge-room pre = gauge-fits (pre .0) (pre .1)
+    pub gauge-room : Ready s part gauges k x y out → 5 ≤ length out
+    gauge-room pre = gauge-at (pre .0) (pre .1) .0
 
-    pub gauge-laid : {z : ℕ} {last : List ℕ} → Word s part k z → last ≡ (k + 1) ∷ x ∷ y ∷ (z % 65_536) ∷ (z / 65_536) ∷ drop 5 out → Lays s part gauges k x y out last
+    pub gauge-place : Ready s part gauges k x y out → AtPlace s part k
+    gauge-place pre = gauge-at (pre .0) (pre .1) .1
+
+    pub gauge-laid : {z n : ℕ} {last : List ℕ} → Word s part k z → NumberIs s part k n → last ≡ n ∷ x ∷ y ∷ (z % 65_536) ∷ (z / 65_536) ∷ drop 5 out → Lays s part gauges k x y out last
     unfolding shapes laid place
-    gauge-laid {z} {last} word written (gauge sizes) h =
-        let item = getD sizes k (size 0 0) in
+    gauge-laid {z} {n} {last} word number written (gauge sizes) h =
+        let item = getD (gaugeShapes sizes) k (size 0 0) in
         let low = shape-low s part k (gauge sizes) (h .stored) (h .in-list) in
-        let here = index-at sizes (h .good .ordered) k (h .in-list) in
         let same-word = word (gauge sizes) (h .stored) (h .in-list) in
         let m-same : z / 65_536 ≡ height item = m-is item z (z / 65_536) low same-word refl in
         let p-same : z % 65_536 ≡ width item = p-is item z (z % 65_536) low same-word refl in
+        let numbered = number sizes (gauge-stored sizes h) in
+        let printed = gauge-useful sizes .sizes .from-size item (at-index (gaugeShapes sizes) k (size 0 0) (h .in-list)) in
+        let found = index-found item sizes (size 0 0) printed .same in
         written
-        ∙ ap (λ (n : ℕ). (k + 1) ∷ x ∷ y ∷ n ∷ (z / 65_536) ∷ drop 5 out) p-same
-        ∙ ap (λ (n : ℕ). (k + 1) ∷ x ∷ y ∷ width item ∷ n ∷ drop 5 out) m-same
-        ∙ ap (λ (n : ℕ). (n + 1) ∷ x ∷ y ∷ width (getD sizes n (size 0 0)) ∷ height (getD sizes n (size 0 0)) ∷ drop 5 out) (sym here)
-    gauge-laid word written (beside a b) h = let same = h .stored .0 .kind-is in absurd (omega arith)
-    gauge-laid word written (stacked a b) h = let same = h .stored .0 .kind-is in absurd (omega arith)
+        ∙ ap (λ (i : ℕ). i ∷ x ∷ y ∷ (z % 65_536) ∷ (z / 65_536) ∷ drop 5 out) numbered
+        ∙ ap₂ (λ (w v : ℕ). (indexOf item sizes + 1) ∷ x ∷ y ∷ w ∷ v ∷ drop 5 out) p-same m-same
+        ∙ ap (λ (i : Item). (indexOf item sizes + 1) ∷ x ∷ y ∷ width i ∷ height i ∷ drop 5 out) (sym found)
+    gauge-laid word number written (beside a b) h = let same = h .stored .0 .kind-is in absurd (omega arith)
+    gauge-laid word number written (stacked a b) h = let same = h .stored .0 .kind-is in absurd (omega arith)
 
 -- A whole face is laid out from 0, 0: its items are below 65,536.
 pub root-layable : (s : List ℕ) (part : ℕ) (t : Tree) (k : ℕ) (out : List ℕ) → Stored s part t → Good t → k < length (shapes 0 t) → 5 * gaugeCount t ≤ length out → Layable s part t (gaugeCount t) k 0 0 out

@@ -94,7 +94,7 @@ module _ {s : List ℕ} {part gauges k x y : ℕ} {out : List ℕ} where
       }
 
   pub view : {kind : ℕ} → kind ≡ getD s (4 * part + 2) 0 → (kind ≡ 1 → ⊥) → (t : Tree) → Layable s part t gauges k x y out → View s part (eqb kind 3) t k x y
-  view e other (gauge z) h = absurd (other (e ∙ h .stored .kind-is))
+  view e other (gauge z) h = absurd (other (e ∙ h .stored .0 .kind-is))
   view {kind} e other (beside a b) h =
       let same = h .stored .0 .kind-is in
       subst (λ (u : Bool). View s part u (beside a b) k x y) (sym (ne-eqb kind 3 (λ f. absurd (omega arith)))) (view-beside a b h)

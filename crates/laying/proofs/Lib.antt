@@ -1,6 +1,7 @@
 pub mod OrderLaws
 pub mod Searching
 pub mod StretchLaws
+pub mod SizeNumbers
 pub mod TakeLaws
 pub mod ShapeReading
 pub mod GaugeLaws

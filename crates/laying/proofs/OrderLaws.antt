@@ -1,6 +1,6 @@
--- Items of an ordered list by their places: m falls from place to place, the first item of at most some m is found by its place, and an item's index is its place.
--- Each goes down the list, since every item is set against all after it.
-use mathlib.Core.Path.{_≡_, refl, ap}
+-- Items of an ordered list by their places: the first item of at most some m is found by its place, and the last is at most some m where any is.
+-- m falls from place to place.
+use mathlib.Core.Path.{_≡_, ap}
 use mathlib.Core.Bool.{Bool, true, false}
 use mathlib.Core.List.{List, [], _∷_}
 use mathlib.Core.Logic.{⊎-elim}
@@ -8,22 +8,16 @@ use Prim.Native.Nat.{ℕ, zero, suc, _+_, _-_, _≤_, _<_}
 use native.Mathlib.Nat.{eq-or-lt-of-le}
 use native.Mathlib.Omega.{arith}
 use lib.ListN.{length, getD}
-use borrow.Author.Tests.{le-leb, lt-leb, eq-eqb, ne-eqb}
-use Rattle.slicing.specs.Item.{Item, size, height, width}
+use borrow.Author.Tests.{le-leb, lt-leb}
+use Rattle.slicing.specs.Item.{Item, size}
 use Rattle.slicing.specs.Good.{Ordered}
-use Rattle.slicing.specs.Fit.{noTaller, indexOf}
-use Rattle.slicing.proofs.Placing.{index-found}
+use Rattle.slicing.specs.Useful.{indexOf}
+use Rattle.slicing.specs.Fit.{noTaller}
+use Rattle.slicing.proofs.ByPlace.{falling}
+use Rattle.slicing.proofs.Indexes.{index-found}
 use Rattle.slicing.proofs.TurnLaws.{turn-ordered}
 use Rattle.packed.specs.inside.Packed.{facing}
-use Rattle.packed.proofs.StoredLists.{place-in}
 use Rattle.laying.specs.inside.Taking.{HasLow}
-
-pub falling : (l : List Item) → Ordered l → (i j : ℕ) → i < j → j < length l → getD l j (size 0 0) .m < getD l i (size 0 0) .m
-falling [] o i j h k = absurd (omega arith)
-falling (x ∷ l) o zero zero h k = absurd (omega arith)
-falling (x ∷ l) o zero (suc j) h k = o .0 (getD l j (size 0 0)) (place-in l j (omega arith)) .0
-falling (x ∷ l) o (suc i) zero h k = absurd (omega arith)
-falling (x ∷ l) o (suc i) (suc j) h k = falling l (o .1) i j (omega arith) (omega arith)
 
 -- All before it are above the limit, and it is not.
 pub first-low : (limit : ℕ) (l : List Item) (i : ℕ) → i < length l → getD l i (size 0 0) .m ≤ limit → ((j : ℕ) → j < i → limit < getD l j (size 0 0) .m) → noTaller limit l ≡ getD l i (size 0 0)
@@ -60,15 +54,6 @@ above-to limit l o i h over j k =
     ⊎-elim (λ same. let at = ap (λ (n : ℕ). getD l n (size 0 0) .m) same in omega arith)
     (λ before. let f = falling l o j i before h in omega arith)
     (eq-or-lt-of-le to-there)
-
-pub index-at : (l : List Item) → Ordered l → (i : ℕ) → i < length l → indexOf (getD l i (size 0 0)) l ≡ i
-unfolding indexOf
-index-at [] o i h = absurd (omega arith)
-index-at (x ∷ l) o zero h = simp (eq-eqb (height x) (height x) refl, eq-eqb (width x) (width x) refl)
-index-at (x ∷ l) o (suc i) h =
-    let z = getD l i (size 0 0) in
-    let after = o .0 z (place-in l i (omega arith)) in
-    simp (ne-eqb (height x) (height z) (λ e. absurd (omega arith))) (ap suc (index-at l (o .1) i (omega arith)))
 
 pub facing-ordered : (across : Bool) (l : List Item) → Ordered l → Ordered (facing across l)
 facing-ordered true l o = turn-ordered l o

@@ -25,7 +25,7 @@ use Rattle.stored.proofs.OwnLists.{entry-of, own-beside, own-stacked, kind-low}
 use Rattle.laying.specs.inside.Taking.{joinKind}
 
 -- A word that is not 0 is inside.
-word-inside : (s : List ℕ) (i : ℕ) → 1 ≤ getD s i 0 → i < length s
+pub word-inside : (s : List ℕ) (i : ℕ) → 1 ≤ getD s i 0 → i < length s
 word-inside s i h =
     by-test (ltb i (length s)) (ltb-true i (length s))
     (λ over. let none = List·getD-eq-default s 0 (ltb-false i (length s) over) in absurd (omega arith))

@@ -2,23 +2,29 @@
 ghost use mathlib.Core.Path.{_≡_};
 ghost use mathlib.Core.Bool.{cond};
 ghost use mathlib.Core.List.{_∷_};
+ghost use mathlib.Core.List.{List};
 ghost use Prim.Native.Nat.{_+_, _/_, _%_, _^_, _≤_, _<_};
-ghost use lib.ListN.{length, drop};
+ghost use lib.ListN.{length, getD, drop};
+ghost use Rattle.slicing.specs.Item.{Item, size};
+ghost use Rattle.slicing.specs.Useful.{indexOf, gaugeShapes};
 ghost use Rattle.slicing.specs.Tree.{Tree};
 ghost use Rattle.slicing.specs.Shapes.{shapes};
 ghost use Rattle.packed.specs.inside.Packed.{pack};
 ghost use Rattle.stored.specs.inside.Store.{Stored};
-ghost use Rattle.laying.specs.inside.Laying.{shapeAt, movedBy, Layable, laid};
+ghost use Rattle.laying.specs.inside.Laying.{shapeAt, GaugePlace, movedBy, Layable, laid};
 use crate::take::take_item;
 use packed::item::m_of;
 use packed::item::p_of;
 use packed::item::read_item;
 use stored::fill::stretch;
+use stored::table::COUNT;
+use stored::table::FROM;
 use stored::table::GAUGE;
 use stored::table::GAUGES;
 use stored::table::KIND;
 use stored::table::STACKED;
 use stored::table::part_word;
+use useful::order::number_at;
 
 // The item at a place of a part's shape list by height.
 pub fn item_at(scratch: &[u32], part: usize, place: usize) -> u32
@@ -50,12 +56,22 @@ fn moved(at: u32, by: u32, goes: bool) -> u32
     at
 }
 
-// The words of a gauge: the number of its size, across, up, width and height.
-fn write_gauge(out: &mut [u32], place: usize, x: u32, y: u32, size: u32)
-    requires { ⌜ (5 ≤ length (now out)) × (place + 1 < 2 ^ 32) ⌝ }
-    ensures { λ _. ⌜ now (out .exit) ≡ (place + 1) ∷ x ∷ y ∷ (size % 65536) ∷ (size / 65536) ∷ drop 5 (now (out .entry)) ⌝ }
+// The number within the gauge of the size at a place of its list: the word behind the list has it.
+fn size_number(scratch: &[u32], part: usize, place: usize) -> u32
+    requires { ⌜ ((s : List Item) × GaugePlace (now scratch) part s place) ⌝ }
+    ensures { λ r. ⌜ ((s : List Item) → GaugePlace (now (scratch .entry)) part s place → r ≡ indexOf (getD (gaugeShapes s) place (size 0 0)) s + 1) ⌝ }
 {
-    out[0] = (place + 1) as u32;
+    let from = part_word(scratch, part, FROM);
+    let count = part_word(scratch, part, COUNT);
+    number_at(scratch[from + count], count, place)
+}
+
+// The words of a gauge: the number of its size, across, up, width and height.
+fn write_gauge(out: &mut [u32], number: u32, x: u32, y: u32, size: u32)
+    requires { ⌜ 5 ≤ length (now out) ⌝ }
+    ensures { λ _. ⌜ now (out .exit) ≡ number ∷ x ∷ y ∷ (size % 65536) ∷ (size / 65536) ∷ drop 5 (now (out .entry)) ⌝ }
+{
+    out[0] = number;
     out[1] = x;
     out[2] = y;
     out[3] = p_of(size);
@@ -79,7 +95,7 @@ pub fn lay(
     let kind = part_word(scratch, part, KIND);
     let z = item_at(scratch, part, place);
     if kind == GAUGE {
-        write_gauge(out, place, x, y, z);
+        write_gauge(out, size_number(scratch, part, place), x, y, z);
         return;
     }
     let upward = kind == STACKED;

@@ -1,35 +1,39 @@
 -- What the loop over the entries keeps: the parts of the stack are the last parts of the table, and their lists follow it.
 -- A gauge and a join each add one part after those that are there.
 use mathlib.Core.Path.{_≡_, refl, sym, ap, subst, _∙_}
+use mathlib.Core.Bool.{Bool, false, not}
 use mathlib.Core.List.{List, [], _∷_}
 use Prim.Native.Nat.{ℕ, _+_, _*_, _-_, _≤_, _<_}
 use native.Mathlib.Omega.{arith}
-use lib.ListN.{length, length-append}
+use lib.ListN.{length, getD, length-append}
+use borrow.Author.Tests.{not-false}
 use Rattle.checks.specs.Limits.{bufferWords}
 use Rattle.checks.specs.Answer.{taken}
 use Rattle.slicing.specs.Item.{Item}
-use Rattle.slicing.specs.Tree.{Tree, gauge, beside, stacked, gaugesOf, gaugeCount, sizeCount}
+use Rattle.slicing.specs.Tree.{Tree, gauge, beside, stacked, gaugesOf, gaugeCount}
 use Rattle.slicing.specs.Good.{Good}
-use Rattle.slicing.specs.Shapes.{shapes}
+use Rattle.slicing.specs.Useful.{gaugeShapes}
 use Rattle.slicing.proofs.Counts.{gauges-joined, sizes-joined}
 use Rattle.slicing.proofs.Depths.{depth-few}
-use Rattle.slicing.proofs.Stored.{storedItems}
 use Rattle.facefile.specs.declared.walk.GaugeEntry.{GaugeEntry}
 use Rattle.facefile.specs.declared.walk.Entry.{Entry as FileEntry}
 use Rattle.facefile.specs.declared.walk.Entry.the-variants.{Gauge, Join}
-use Rattle.facefile.specs.Format.{faceOf}
+use Rattle.sizes.specs.Rules.{asksOrder}
+use Rattle.facefile.specs.Format.{rulesOf, faceOf}
 use Rattle.entries.specs.inside.Kinds.{Cut, cut-beside, cut-stacked}
-use Rattle.sizes.specs.inside.Sizes.{sizesIn, Sized}
+use Rattle.sizes.specs.inside.Sizes.{sizesIn}
 use Rattle.entries.specs.inside.Tracking.{flat}
 use Rattle.facefile.specs.inside.Walk.{firstEntry, Walk, sizeBytesOf, GaugeAt, JoinAt, Finds}
 use Rattle.sizes.proofs.SizesIn.{in-length}
+use Rattle.useful.specs.inside.Order.{GaugeBytes, orderWord, countingWord}
+use Rattle.useful.proofs.FirstDigits.{first-word}
 use Rattle.facefile.proofs.WalkSteps.{walk-start, walk-end, found-gauge, found-join}
 use Rattle.facefile.proofs.WalkStack.{walk-good, walk-gauges, walk-face, join-good, join-gauges}
-use Rattle.stored.specs.inside.Store.{ownShapes, Entry, Stored}
+use Rattle.stored.specs.inside.Store.{ownShapes, Entry, Named, Stored}
 use Rattle.stored.specs.inside.Filling.{Between, Lies, Added, Rows, Fillable, Filled}
-use Rattle.stored.specs.inside.Adding.{Room, JoinRoom}
-use Rattle.stored.proofs.OwnLists.{entry-of, own-length, own-few, cut-gauges, cut-short}
-use Rattle.stored.proofs.StoredRows.{stored-frame, lies-frame, rows-frame, rows-total, used, used-few}
+use Rattle.stored.specs.inside.Adding.{Room, GaugeAdded, JoinRoom}
+use Rattle.stored.proofs.OwnLists.{entry-of, own-gauge, own-length, own-few, cut-gauges, cut-short}
+use Rattle.stored.proofs.StoredRows.{stored-frame, lies-frame, rows-frame, rows-total, partWords, used, used-few}
 
 pub record Filling (file s₀ s : List ℕ) (at part to : ℕ) : Type 0 where
   pub ready : Fillable file s₀
@@ -38,6 +42,10 @@ pub record Filling (file s₀ s : List ℕ) (at part to : ℕ) : Type 0 where
   pub length-kept : length s ≡ length s₀
   pub rows : Rows s to stack part
   pub used-is : to ≡ 508 + used stack
+
+-- The head of a taken file is there.
+pub filling-head : (file s : List ℕ) → Fillable file s → 7 ≤ length file
+filling-head file s ready = walk-start file (ready .tree) (ready .face) .inside
 
 pub filling-start : (file s : List ℕ) → Fillable file s → Filling file s s firstEntry 0 508
 filling-start file s ready =
@@ -50,19 +58,23 @@ filling-start file s ready =
       used-is = refl;
     }
 
-own-gauge : (z : List Item) → ownShapes (gauge z) ≡ z
-unfolding ownShapes shapes
-own-gauge z = refl
-
 lies-between : (s : List ℕ) (to x : ℕ) (t : Tree) → Lies s to x t → Between s to x t
-lies-between s to x (gauge z) l = l
+lies-between s to x (gauge z) l = l .0
 lies-between s to x (beside a b) l = l .0
 lies-between s to x (stacked a b) l = l .0
 
 -- The same of both joins.
-cut-used : (kind : ℕ) (cut : Tree → Tree → Tree) → Cut kind cut → (a b : Tree) → sizeCount (cut a b) + storedItems 0 (cut a b) ≡ sizeCount a + storedItems 0 a + (sizeCount b + storedItems 0 b) + length (ownShapes (cut a b))
-cut-used kind cut cut-beside a b = let n = sizes-joined a b in let m = own-length (beside a b) in omega arith
-cut-used kind cut cut-stacked a b = let n = sizes-joined a b in let m = own-length (stacked a b) in omega arith
+cut-used : (kind : ℕ) (cut : Tree → Tree → Tree) → Cut kind cut → (a b : Tree) → partWords (cut a b) ≡ partWords a + partWords b + length (ownShapes (cut a b))
+cut-used kind cut cut-beside a b =
+    let n = sizes-joined a b in
+    let g = gauges-joined a b in
+    let m = own-length (beside a b) in
+    omega arith
+cut-used kind cut cut-stacked a b =
+    let n = sizes-joined a b in
+    let g = gauges-joined a b in
+    let m = own-length (stacked a b) in
+    omega arith
 
 cut-stored : (kind : ℕ) (cut : Tree → Tree → Tree) → Cut kind cut → (a b : Tree) (z : List ℕ) (e : ℕ) → Entry z e kind (gaugeCount a + gaugeCount b) (ownShapes (cut a b)) → 2 * (gaugeCount a + gaugeCount b) ≤ e + 2 → Stored z (e - 1) b → Stored z (e - 2 * gaugeCount b) a → Stored z e (cut a b)
 cut-stored kind cut cut-beside a b z e h n x y =
@@ -83,7 +95,7 @@ module _ (file s₀ s : List ℕ) (at part to : ℕ) (k : Filling file s₀ s at
   long : bufferWords ≤ length s
   long = let l = k .ready .long in let same = k .length-kept in omega arith
 
-  place-few : (508 ≤ to) × (to ≤ 15_644)
+  place-few : (508 ≤ to) × (to ≤ 15_708)
   place-few =
       let u = k .used-is in
       let few = used-few (k .stack) (walk-good file face at (k .stack) (k .walk)) (walk-gauges file face at (k .stack) (k .walk)) in
@@ -104,38 +116,52 @@ module _ (file s₀ s : List ℕ) (at part to : ℕ) (k : Filling file s₀ s at
           let one-more = length-append (flat gaugesOf (k .stack)) (sizes ∷ []) in
           omega arith
 
-      pub gauge-room : Room s part to (g .count)
+      pub gauge-bytes : GaugeBytes (g .count) (sizeBytesOf file g)
+      gauge-bytes = record { sized = here .sized; some = here .some; few = here .few }
+
+      -- The sizes of a gauge that was asked for its order stand in order.
+      pub gauge-in-order : (known : Bool) → known ≡ asksOrder (rulesOf file) → not known ≡ false → (word : ℕ) → word ≡ countingWord (g .count) → word ≡ orderWord sizes
+      gauge-in-order known known-is asked word word-is =
+          first-word (g .count) (sizeBytesOf file g) word (here .order (sym known-is ∙ not-false known asked)) word-is
+
+      pub gauge-room : Room s part to (g .count + 1)
       gauge-room =
           let p = place-few in
           let few = here .few in
           record { long = long; part = (let fits = gauge-part in omega arith); from = p .0; items = omega arith }
 
-      pub gauge-fits : to + g .count < 65_536
+      pub gauge-fits : to + (g .count + 1) < 65_536
       gauge-fits = let p = place-few in let few = here .few in omega arith
 
-      pub gauge-sized : Sized (g .count) (sizeBytesOf file g)
-      gauge-sized = here .sized
-
-      pub gauge-few : g .count ≤ 8
-      gauge-few = here .few
-
-      pub filling-gauge : (z : List ℕ) → Added s z part to 1 1 sizes → Filling file s₀ z (g .next) (part + 1) (to + g .count)
-      filling-gauge z d =
-          let n = g .count in
+      pub filling-gauge : (z : List ℕ) → GaugeAdded s z part to (to + g .count) sizes → Filling file s₀ z (g .next) (part + 1) (to + (g .count + 1))
+      filling-gauge z added =
+          let d = added .added in
+          let up = to + (g .count + 1) in
           let p = place-few in
+          let low = added .low in
+          let to-end = added .to-end in
           let back : part ≡ part + 1 - 1 = omega arith in
-          let list : sizes ≡ ownShapes (gauge sizes) = sym (own-gauge sizes) in
-          let long-list = ap length list in
-          let many = in-length n (sizeBytesOf file g) in
-          let here-stored : Stored z (part + 1 - 1) (gauge sizes) = subst (λ (x : ℕ). Entry z x 0x01 1 (ownShapes (gauge sizes))) back (subst (λ (l : List Item). Entry z part 0x01 1 l) list (d .entry)) in
-          let lies : Lies z (to + n) (part + 1 - 1) (gauge sizes) = subst (λ (x : ℕ). Between z (to + n) x (gauge sizes)) back (let f = d .from-is in (omega arith, omega arith)) in
-          let below : Rows z (to + n) (k .stack) part = rows-frame s z part to (to + n) (d .length-kept) (d .table-kept) (d .lists-kept) (omega arith) (k .stack) part (omega arith) (k .rows) in
+          let list : gaugeShapes sizes ≡ ownShapes (gauge sizes) = sym (own-gauge sizes) in
+          let as-long = ap length list in
+          let many = in-length (g .count) (sizeBytesOf file g) in
+          let f = d .from-is in
+          let entry : Entry z part 0x01 1 (ownShapes (gauge sizes)) = subst (λ (l : List Item). Entry z part 0x01 1 l) list (d .entry) in
+          let place : getD z (4 * part) 0 + length (ownShapes (gauge sizes)) ≡ to + g .count = omega arith in
+          let named : Named z part sizes = ap (λ (i : ℕ). getD z i 0) place ∙ added .named in
+          let lies : Lies z up part (gauge sizes) = ((omega arith, omega arith), omega arith) in
+          let below : Rows z up (k .stack) part = rows-frame s z part to up (d .length-kept) (d .table-kept) (λ i from less. d .lists-kept i from (omega arith)) (omega arith) (k .stack) part (omega arith) (k .rows) in
           record {
             ready = k .ready;
             stack = gauge sizes ∷ k .stack;
             walk = here .walk;
             length-kept = d .length-kept ∙ k .length-kept;
-            rows = (part, omega arith, here-stored, lies, below);
+            rows = (
+              part,
+              omega arith,
+              subst (λ (x : ℕ). Stored z x (gauge sizes)) back (entry, named),
+              subst (λ (x : ℕ). Lies z up x (gauge sizes)) back lies,
+              below,
+            );
             used-is = let u = k .used-is in omega arith;
           }
 

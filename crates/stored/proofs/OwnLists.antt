@@ -8,6 +8,7 @@ use lib.ListN.{length}
 use Rattle.slicing.specs.Item.{Item}
 use Rattle.slicing.specs.Tree.{Tree, gauge, beside, stacked, gaugeCount}
 use Rattle.slicing.specs.Good.{Good}
+use Rattle.slicing.specs.Useful.{gaugeShapes}
 use Rattle.slicing.specs.Merge.{merge, swap, turn}
 use Rattle.slicing.specs.Shapes.{shapes}
 use Rattle.slicing.proofs.Counts.{counted, gauges-joined}
@@ -19,9 +20,14 @@ use Rattle.packed.specs.inside.Packed.{facing}
 use Rattle.stored.specs.inside.Store.{ownShapes, Entry, Stored}
 
 pub entry-of : (s : List ℕ) (e : ℕ) (t : Tree) → Stored s e t → Entry s e (kindOf t) (gaugeCount t) (ownShapes t)
-entry-of s e (gauge z) h = h
+entry-of s e (gauge z) h = h .0
 entry-of s e (beside a b) h = h .0
 entry-of s e (stacked a b) h = h .0
+
+-- The list of a gauge is that of its useful sizes.
+pub own-gauge : (z : List Item) → ownShapes (gauge z) ≡ gaugeShapes z
+unfolding ownShapes shapes
+own-gauge z = refl
 
 pub own-length : (t : Tree) → length (ownShapes t) ≡ length (shapes 0 t)
 unfolding ownShapes

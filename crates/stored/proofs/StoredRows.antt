@@ -1,6 +1,6 @@
 -- The stored parts stand as long as the words of the table before a part, and the lists before a place, do; and how many words they take.
 -- Each part's words are before the next part's, and each list ends before the next one starts.
-use mathlib.Core.Path.{_≡_, sym, subst, _∙_}
+use mathlib.Core.Path.{_≡_, sym, ap, subst, _∙_}
 use mathlib.Core.List.{List, [], _∷_}
 use Prim.Native.Nat.{ℕ, _+_, _*_, _-_, _≤_, _<_}
 use native.Mathlib.Nat.{mul-le-mul}
@@ -14,7 +14,7 @@ use Rattle.slicing.proofs.Stored.{storedItems, stored-few}
 use Rattle.entries.specs.inside.Tracking.{flat}
 use Rattle.facefile.proofs.Taken.{GoodParts}
 use Rattle.packed.specs.inside.Packed.{HasList}
-use Rattle.stored.specs.inside.Store.{ownShapes, Entry, Stored}
+use Rattle.stored.specs.inside.Store.{ownShapes, Entry, Named, Stored}
 use Rattle.stored.specs.inside.Filling.{Between, Lies, Rows}
 
 module _ (s z : List ℕ) (e to up : ℕ) (long : length z ≡ length s) (table : (i : ℕ) → i < 4 * e → getD z i 0 ≡ getD s i 0) (lists : (i : ℕ) → 508 ≤ i → i < to → getD z i 0 ≡ getD s i 0) (after : to ≤ up) where
@@ -42,15 +42,28 @@ module _ (s z : List ℕ) (e to up : ℕ) (long : length z ≡ length s) (table 
         gauges-is = table (4 * x + 3) (omega arith) ∙ h .gauges-is;
       }
 
+  named-frame : (v : List Item) (x : ℕ) → x < e → Named s x v → Lies s to x (gauge v) → Named z x v
+  named-frame v x less h l =
+      let low = l .0 .0 in
+      let high = l .1 in
+      let place = getD s (4 * x) 0 + length (ownShapes (gauge v)) in
+      ap (λ (f : ℕ). getD z (f + length (ownShapes (gauge v))) 0) (table (4 * x) (omega arith))
+      ∙ lists place (omega arith) (omega arith)
+      ∙ h
+
   pub stored-frame : (t : Tree) (x : ℕ) → x < e → Stored s x t → Lies s to x t → Stored z x t
-  stored-frame (gauge v) x less h b = entry-frame x 0x01 1 (ownShapes (gauge v)) less (b .0) (b .1) h
+  stored-frame (gauge v) x less h l =
+      (entry-frame x 0x01 1 (ownShapes (gauge v)) less (l .0 .0) (l .0 .1) (h .0), named-frame v x less (h .1) l)
   stored-frame (beside a b) x less h l =
       (entry-frame x 0x02 (gaugeCount (beside a b)) (ownShapes (beside a b)) less (l .0 .0) (l .0 .1) (h .0), h .1, stored-frame b (x - 1) (omega arith) (h .2) (l .1), stored-frame a (x - 2 * gaugeCount b) (omega arith) (h .3) (l .2))
   stored-frame (stacked a b) x less h l =
       (entry-frame x 0x03 (gaugeCount (stacked a b)) (ownShapes (stacked a b)) less (l .0 .0) (l .0 .1) (h .0), h .1, stored-frame b (x - 1) (omega arith) (h .2) (l .1), stored-frame a (x - 2 * gaugeCount b) (omega arith) (h .3) (l .2))
 
   pub lies-frame : (t : Tree) (x : ℕ) → x < e → Lies s to x t → Lies z up x t
-  lies-frame (gauge v) x less l = between-frame x (gauge v) less l
+  lies-frame (gauge v) x less l =
+      let same = table (4 * x) (omega arith) in
+      let high = l .1 in
+      (between-frame x (gauge v) less (l .0), omega arith)
   lies-frame (beside a b) x less l =
       (between-frame x (beside a b) less (l .0), lies-frame b (x - 1) (omega arith) (l .1), lies-frame a (x - 2 * gaugeCount b) (omega arith) (l .2))
   lies-frame (stacked a b) x less l =
@@ -72,21 +85,24 @@ rows-total s to (t ∷ stack) e r =
     let both = length-append (flat gaugesOf stack) (gaugesOf t) in
     omega arith
 
--- The words that the lists of the parts on the stack take.
+-- The words that the lists of a part and of all parts of it take: for a gauge as many as it has sizes and one behind them, for a join as many as its list has items.
+abbrev pub partWords : Tree → ℕ
+partWords t = sizeCount t + gaugeCount t + storedItems 0 t
+
 abbrev pub used : List Tree → ℕ
 used [] = 0
-used (t ∷ stack) = used stack + (sizeCount t + storedItems 0 t)
+used (t ∷ stack) = used stack + partWords t
 
-sum-of-squares : (x y u v w : ℕ) → 2 * u ≤ 7 * (x * x) + 25 * x → 2 * v + 16 ≤ 7 * (y * y) + 9 * y → w ≤ 8 * y → 2 * (u + (w + v)) ≤ 7 * ((x + y) * (x + y)) + 25 * (x + y)
+sum-of-squares : (x y u v w : ℕ) → 2 * u ≤ 7 * (x * x) + 27 * x → 2 * v + 16 ≤ 7 * (y * y) + 9 * y → w ≤ 8 * y → 2 * (u + (w + y + v)) ≤ 7 * ((x + y) * (x + y)) + 27 * (x + y)
 sum-of-squares x y u v w p q r = omega arith
 
-used-bound : (stack : List Tree) → GoodParts stack → 2 * used stack ≤ 7 * (length (flat gaugesOf stack) * length (flat gaugesOf stack)) + 25 * length (flat gaugesOf stack)
+used-bound : (stack : List Tree) → GoodParts stack → 2 * used stack ≤ 7 * (length (flat gaugesOf stack) * length (flat gaugesOf stack)) + 27 * length (flat gaugesOf stack)
 used-bound [] g = omega arith
 used-bound (t ∷ stack) g =
     rw (length-append (flat gaugesOf stack) (gaugesOf t))
     (sum-of-squares (length (flat gaugesOf stack)) (gaugeCount t) (used stack) (storedItems 0 t) (sizeCount t) (used-bound stack (g .1)) (stored-few 0 t (g .0)) (counted t (g .0) .most))
 
-pub used-few : (stack : List Tree) → GoodParts stack → length (flat gaugesOf stack) ≤ 64 → used stack ≤ 15_136
+pub used-few : (stack : List Tree) → GoodParts stack → length (flat gaugesOf stack) ≤ 64 → used stack ≤ 15_200
 used-few stack g few =
     let square : length (flat gaugesOf stack) * length (flat gaugesOf stack) ≤ 64 * 64 = mul-le-mul few few in
     let b = used-bound stack g in

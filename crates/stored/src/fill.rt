@@ -4,11 +4,12 @@ ghost use Prim.Native.Nat.{ℕ, _+_, _*_, _<_, _≤_};
 ghost use lib.ListN.{length, getD};
 ghost use Rattle.checks.specs.Answer.{taken};
 ghost use Rattle.slicing.specs.Tree.{Tree};
+ghost use Rattle.slicing.specs.Useful.{gaugeShapes};
 ghost use Rattle.facefile.specs.Format.{faceOf};
-ghost use Rattle.sizes.specs.inside.Sizes.{sizesIn, Sized};
-ghost use Rattle.packed.specs.inside.Packed.{HasList};
-ghost use Rattle.stored.specs.inside.Filling.{entryAt, stretchOf, Added, Fillable, Filled};
-ghost use Rattle.stored.specs.inside.Adding.{Room, JoinRoom, JoinAdded};
+ghost use Rattle.sizes.specs.inside.Sizes.{sizesIn};
+ghost use Rattle.useful.specs.inside.Order.{GaugeBytes, orderWord};
+ghost use Rattle.stored.specs.inside.Filling.{entryAt, stretchOf, Fillable, Filled};
+ghost use Rattle.stored.specs.inside.Adding.{Room, PackedBefore, GaugeAdded, JoinRoom, JoinAdded};
 use crate::table::COUNT;
 use crate::table::FROM;
 use crate::table::GAUGES;
@@ -16,11 +17,14 @@ use crate::table::KIND;
 use crate::table::part_word;
 use facefile::walk::Entry;
 use facefile::walk::FIRST_ENTRY;
+use facefile::walk::asks_order;
 use facefile::walk::entry_at;
 use packed::item::packed;
 use packed::merge::Stretch;
 use packed::merge::merge_lists;
 use sizes::size_in;
+use useful::order::in_order;
+use useful::order::order;
 
 // The words of the table, four a part. The lists follow it.
 const TABLE: usize = 508;
@@ -37,27 +41,33 @@ fn store_entry(scratch: &mut [u32], part: usize, from: usize, count: usize, kind
     scratch[at + 3] = gauges;
 }
 
-// Packs the sizes of a gauge, four bytes a size, from the place `to` on.
-fn store_sizes(scratch: &mut [u32], to: usize, bytes: &[u8], count: usize)
-    requires { ⌜ Sized count (now bytes) × (to + count ≤ length (now scratch)) × (count ≤ 8) ⌝ }
-    ensures { λ _. ⌜ HasList (now (scratch .exit)) to (sizesIn count (now (bytes .entry))) ⌝ }
-    ensures { λ _. ⌜ ((i : ℕ) → i < to → getD (now (scratch .exit)) i 0 ≡ getD (now (scratch .entry)) i 0) ⌝ }
+// Packs the useful ones of a gauge's sizes, four bytes a size, so that they end before the place `end`: the digits of
+// `named` name them from the last to the first. Answers where the first stands.
+fn store_sizes(scratch: &mut [u32], end: usize, bytes: &[u8], named: u32) -> usize
+    requires { ⌜ ((n : ℕ) × GaugeBytes n (now bytes) × (named ≡ orderWord (sizesIn n (now bytes))) × (n ≤ end) × (end ≤ length (now scratch))) ⌝ }
+    ensures { λ r. ⌜ ((n : ℕ) → GaugeBytes n (now (bytes .entry)) → named ≡ orderWord (sizesIn n (now (bytes .entry))) → PackedBefore (now (scratch .entry)) (now (scratch .exit)) r end (gaugeShapes (sizesIn n (now (bytes .entry))))) ⌝ }
 {
-    let mut k = 0;
-    while k < count {
+    let mut at = end;
+    let mut left = named;
+    while 0 < left {
+        let k = (left % 16) as usize - 1;
         let z = size_in(bytes, k);
-        scratch[to + k] = packed(z.height, z.width);
-        k += 1;
+        at -= 1;
+        scratch[at] = packed(z.height, z.width);
+        left = left / 16;
     }
+    at
 }
 
-// Adds a gauge as a part: its sizes from the place `to` on.
-fn store_gauge(scratch: &mut [u32], part: usize, to: usize, bytes: &[u8], count: usize)
-    requires { ⌜ Room (now scratch) part to count × Sized count (now bytes) × (count ≤ 8) ⌝ }
-    ensures { λ _. ⌜ Added (now (scratch .entry)) (now (scratch .exit)) part to 1 1 (sizesIn count (now (bytes .entry))) ⌝ }
+// Adds a gauge as a part: its useful sizes in the places from `to` on, and behind them the word that names them.
+fn store_gauge(scratch: &mut [u32], part: usize, to: usize, bytes: &[u8], count: usize, named: u32)
+    requires { ⌜ Room (now scratch) part to (count + 1) × GaugeBytes count (now bytes) × (named ≡ orderWord (sizesIn count (now bytes))) ⌝ }
+    ensures { λ _. ⌜ GaugeAdded (now (scratch .entry)) (now (scratch .exit)) part to (to + count) (sizesIn count (now (bytes .entry))) ⌝ }
 {
-    store_sizes(scratch, to, bytes, count);
-    store_entry(scratch, part, to, count, entries::GAUGE as u32, 1);
+    let end = to + count;
+    scratch[end] = named;
+    let from = store_sizes(scratch, end, bytes, named);
+    store_entry(scratch, part, from, end - from, entries::GAUGE as u32, 1);
 }
 
 // A kind as a byte.
@@ -103,6 +113,7 @@ pub fn store_lists(file: &[u8], scratch: &mut [u32]) -> usize
     requires { ⌜ Fillable (now file) (now scratch) ⌝ }
     ensures { λ r. ⌜ ((t : Tree) → faceOf (now (file .entry)) ≡ taken t → Filled (now (scratch .entry)) (now (scratch .exit)) r t) ⌝ }
 {
+    let known = asks_order(file);
     let mut at = FIRST_ENTRY;
     let mut part = 0;
     let mut to = TABLE;
@@ -111,8 +122,13 @@ pub fn store_lists(file: &[u8], scratch: &mut [u32]) -> usize
             Entry::Gauge(g) => {
                 let from = g.from;
                 let end = g.to;
-                store_gauge(scratch, part, to, &file[from..end], g.count);
-                to += g.count;
+                let sizes = &file[from..end];
+                let mut named = in_order(g.count);
+                if !known {
+                    named = order(sizes, g.count);
+                }
+                store_gauge(scratch, part, to, sizes, g.count, named);
+                to += g.count + 1;
                 at = g.next;
                 part += 1;
             }

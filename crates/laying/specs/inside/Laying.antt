@@ -5,7 +5,8 @@ use mathlib.Core.List.{List, _++_}
 use Prim.Native.Nat.{ℕ, _+_, _*_, _^_, _≤_, _<_}
 use lib.ListN.{length, getD, drop}
 use Rattle.slicing.specs.Item.{Item, size, height, width}
-use Rattle.slicing.specs.Tree.{Tree, gaugeCount}
+use Rattle.slicing.specs.Useful.{gaugeShapes}
+use Rattle.slicing.specs.Tree.{Tree, gauge, gaugeCount}
 use Rattle.slicing.specs.Good.{Good}
 use Rattle.slicing.specs.Shapes.{shapes}
 use Rattle.slicing.specs.Fit.{place, words}
@@ -14,6 +15,12 @@ use Rattle.stored.specs.inside.Store.{Stored}
 -- The item at a place of the part's shape list.
 abbrev pub shapeAt : Tree → ℕ → Item
 shapeAt t k = getD (shapes 0 t) k (size 0 0)
+
+-- A stored gauge, and a place of its list.
+pub record GaugePlace (s : List ℕ) (part : ℕ) (sizes : List Item) (k : ℕ) : Type 0 where
+  pub stored : Stored s part (gauge sizes)
+  pub few : length sizes ≤ 8
+  pub in-list : k < length (gaugeShapes sizes)
 
 -- A place across or up, moved on or not.
 abbrev pub movedBy : Bool → ℕ → ℕ → ℕ

@@ -2,11 +2,15 @@
 use mathlib.Core.Path.{_≡_}
 use mathlib.Core.List.{List}
 use Prim.Native.Nat.{ℕ, _+_, _*_, _-_, _≤_, _<_}
-use lib.ListN.{length}
+use lib.ListN.{length, getD}
 use Rattle.checks.specs.Limits.{bufferWords}
+use Rattle.slicing.specs.Item.{Item}
+use Rattle.slicing.specs.Useful.{gaugeShapes}
 use Rattle.slicing.specs.Tree.{Tree, gaugeCount}
 use Rattle.slicing.specs.Good.{Good}
 use Rattle.entries.specs.inside.Kinds.{kindOf, Cut}
+use Rattle.useful.specs.inside.Order.{orderWord}
+use Rattle.packed.specs.inside.Packed.{HasList}
 use Rattle.stored.specs.inside.Store.{ownShapes, Entry}
 use Rattle.stored.specs.inside.Filling.{Between, Added}
 
@@ -16,6 +20,21 @@ pub record Room (s : List ℕ) (e to n : ℕ) : Type 0 where
   pub part : e < 127
   pub from : 508 ≤ to
   pub items : to + n ≤ bufferWords
+
+-- A list was packed so that it ends before the place `end`: it starts at `from`, and all words before it and from the end on are as they were.
+pub record PackedBefore (s z : List ℕ) (from end : ℕ) (l : List Item) : Type 0 where
+  pub list : HasList z from l
+  pub to-end : from + length l ≡ end
+  pub before : (i : ℕ) → i < from → getD z i 0 ≡ getD s i 0
+  pub behind : (i : ℕ) → end ≤ i → getD z i 0 ≡ getD s i 0
+
+-- A gauge was added as part e: of the places from `to` on, its useful sizes have the last before `end`, and the word that names them stands there.
+pub record GaugeAdded (s z : List ℕ) (e to end : ℕ) (sizes : List Item) : Type 0 where
+  pub from : ℕ
+  pub low : to ≤ from
+  pub to-end : from + length (gaugeShapes sizes) ≡ end
+  pub added : Added s z e from 1 1 (gaugeShapes sizes)
+  pub named : getD z end 0 ≡ orderWord sizes
 
 -- The part before part e is the newer part b of a join, and the older part a is the one before all entries of b.
 pub record JoinRoom (s : List ℕ) (e to kind : ℕ) (cut : Tree → Tree → Tree) (a b : Tree) : Type 0 where

@@ -17,12 +17,12 @@ unfoldable pub entryAt : List ℕ → ℕ → ℕ → ℕ → ℕ → ℕ → Li
 entryAt s e from count kind gauges =
     set (set (set (set s (4 * e) from) (4 * e + 1) count) (4 * e + 2) kind) (4 * e + 3) gauges
 
--- The lists of the part e and of all parts of it stand after the table, before the place `to`.
+-- The lists of the part e and of all parts of it stand after the table, before the place `to`, and so do the words behind the lists of gauges.
 abbrev pub Between : List ℕ → ℕ → ℕ → Tree → Type 0
 Between s to e t = (508 ≤ getD s (4 * e) 0) × (getD s (4 * e) 0 + length (ownShapes t) ≤ to)
 
 abbrev pub Lies : List ℕ → ℕ → ℕ → Tree → Type 0
-Lies s to e (gauge z) = Between s to e (gauge z)
+Lies s to e (gauge z) = Between s to e (gauge z) × (getD s (4 * e) 0 + length (ownShapes (gauge z)) < to)
 Lies s to e (beside a b) = Between s to e (beside a b) × Lies s to (e - 1) b × Lies s to (e - 2 * gaugeCount b) a
 Lies s to e (stacked a b) = Between s to e (stacked a b) × Lies s to (e - 1) b × Lies s to (e - 2 * gaugeCount b) a
 

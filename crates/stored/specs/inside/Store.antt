@@ -8,6 +8,7 @@ use Rattle.slicing.specs.Tree.{Tree, gauge, beside, stacked, gaugeCount}
 use Rattle.slicing.specs.Merge.{turn}
 use Rattle.slicing.specs.Shapes.{shapes}
 use Rattle.entries.specs.inside.Kinds.{kindOf}
+use Rattle.useful.specs.inside.Order.{orderWord}
 use Rattle.packed.specs.inside.Packed.{HasList}
 
 -- The shape list of a part as it is stored: by height for a gauge and side by side, by width for stacked.
@@ -24,9 +25,13 @@ pub record Entry (s : List ℕ) (e kind gauges : ℕ) (l : List Item) : Type 0 w
   pub kind-is : getD s (4 * e + 2) 0 ≡ kind
   pub gauges-is : getD s (4 * e + 3) 0 ≡ gauges
 
+-- Behind the list of a gauge stands the word that names the sizes of the list.
+abbrev pub Named : List ℕ → ℕ → List Item → Type 0
+Named s e z = getD s (getD s (4 * e) 0 + length (ownShapes (gauge z))) 0 ≡ orderWord z
+
 -- A part of g gauges has 2 g - 1 entries. The newer part of a join is the one before it, and the older is the one before all entries of the newer.
 abbrev pub Stored : List ℕ → ℕ → Tree → Type 0
-Stored s e (gauge z) = Entry s e (kindOf (gauge z)) 1 (ownShapes (gauge z))
+Stored s e (gauge z) = Entry s e (kindOf (gauge z)) 1 (ownShapes (gauge z)) × Named s e z
 Stored s e (beside a b) =
     Entry s e (kindOf (beside a b)) (gaugeCount (beside a b)) (ownShapes (beside a b)) × (2 * gaugeCount (beside a b) ≤ e + 2)
     × Stored s (e - 1) b

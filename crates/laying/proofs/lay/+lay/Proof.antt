@@ -2,14 +2,13 @@
 -- The measure is the number of gauges, which each part has fewer of. A gauge's words are written at once; at a join each part takes its item and lays itself out, the newer in the stretch after the older's words.
 use mathlib.Core.List.{List}
 use Prim.Native.Nat.{ℕ, _<_}
-use native.Mathlib.Omega.{arith}
 use lib.Dec.{eqb}
 use lib.ListN.{length}
 use borrow.Author.Needs.{needs}
 use borrow.Fn.Kinds.{In}
 use borrow.Fn.PlainCycle.{Measures, is, falls, and}
 use Rattle.stored.proofs.table.part_word.Reads as part-word-reads
-use Rattle.laying.proofs.GaugeLaws.{ready-inside, ready-item, gauge-room, gauge-laid}
+use Rattle.laying.proofs.GaugeLaws.{ready-inside, ready-item, gauge-room, gauge-place, gauge-laid}
 use Rattle.laying.proofs.JoinLaws.{view}
 use Rattle.laying.proofs.LayLaws.{Join, join-some, newer-inside, Counts, counts, older-takes, newer-takes, right-fits, above-fits, lay-older, lay-newer, join-laid}
 use Rattle.laying.proofs.lay.lay.Reads as lay
@@ -18,6 +17,7 @@ use Rattle.laying.proofs.lay.+lay.Lts-lay as lay-lts
 use Rattle.laying.proofs.lay.along.Reads as along-reads
 use Rattle.laying.proofs.lay.item_at.Reads as item-at-reads
 use Rattle.laying.proofs.lay.moved.Reads as moved-reads
+use Rattle.laying.proofs.lay.size_number.Reads as size-number-reads
 use Rattle.laying.proofs.lay.write_gauge.Reads as write-gauge-reads
 use Rattle.laying.proofs.take.take_item.Reads as take-item-reads
 use Rattle.laying.proofs.lay.+lay.{statement}
@@ -41,6 +41,8 @@ module _ (t : ℕ) where
     part-word-reads.Learnt,
     item-at-reads.Asked,
     item-at-reads.Learnt,
+    size-number-reads.Asked,
+    size-number-reads.Learnt,
     write-gauge-reads.Asked,
     write-gauge-reads.Learnt,
     along-reads.Asked,
@@ -60,21 +62,26 @@ module _ (t : ℕ) where
   item-at-requires c κs = ready-item (c .before .before .before .pre .1)
 
   -- A gauge.
+  size-number-requires : lay-lts.Need-size-number-requires calls asked lay.Post
+  size-number-requires c κs =
+      let at-kind = c .before .before .before in
+      gauge-place (at-kind .part-word .ensures) (c .before .if1 .taken) (at-kind .before .before .before .pre .1)
+
   write-gauge-requires : lay-lts.Need-write-gauge-requires calls asked lay.Post
   write-gauge-requires c κs =
-      let at-kind = c .before .before .before in
-      let room = gauge-room (at-kind .part-word .ensures) (c .before .if1 .taken) (at-kind .before .before .before .pre .1) in
-      let long = room .0 in
-      let low = room .1 in (omega arith, omega arith)
+      let at-gauge = c .before .before in
+      let at-kind = at-gauge .before .before in
+      gauge-room (at-kind .part-word .ensures) (at-gauge .if1 .taken) (at-kind .before .before .before .pre .1)
 
   same-length : lay-lts.Need-same-length calls asked lay.Post
   same-length c = search needs
 
   returns : lay-lts.Need-returns calls asked lay.Post
   returns c =
-      let at-gauge = c .before .before .before .before in
+      let at-number = c .before .before .before in
+      let at-gauge = at-number .before .before in
       let at-item = at-gauge .before in
-      gauge-laid (at-item .before .part-word .ensures) (at-gauge .if1 .taken) (at-item .item-at .ensures) (c .before .before .write-gauge .ensures)
+      gauge-laid (at-item .before .part-word .ensures) (at-gauge .if1 .taken) (at-item .item-at .ensures) (at-number .size-number .ensures) (c .before .before .write-gauge .ensures)
 
   -- A join.
   along-requires : lay-lts.Need-along-requires calls asked lay.Post
@@ -198,6 +205,7 @@ pub +lay-spec : {M : Type 1} → statement M
     lay.Post
     (part-word-requires t)
     (item-at-requires t)
+    (size-number-requires t)
     (write-gauge-requires t)
     (same-length t)
     (returns t)

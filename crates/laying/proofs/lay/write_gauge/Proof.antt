@@ -7,12 +7,6 @@ use borrow.Author.Needs.{needs}
 use Rattle.laying.proofs.lay.write_gauge.Statement.{statement}
 use Rattle.laying.proofs.lay.write_gauge.Tie as tie
 
-add-out : tie.Need-add-out
-add-out c = search needs
-
-cast-out : tie.Need-cast-out
-cast-out c = search needs
-
 slice-write-out : tie.Need-slice-write-out
 slice-write-out c = search needs
 
@@ -38,14 +32,12 @@ same-length : tie.Need-same-length
 same-length c = search needs
 
 returns : tie.Need-returns
-returns c = gauge-words (c .before .before .before .args .out .now) _ _ _ _ _ _ (c .before .before .before .pre .0) (c .before .p-of .ensures) (c .m-of .ensures)
+returns c = gauge-words (c .before .before .before .args .out .now) _ _ _ _ _ _ (c .before .before .before .pre) (c .before .p-of .ensures) (c .m-of .ensures)
 
 pub write-gauge-spec : {M : Type 1} → statement M
 write-gauge-spec =
     tie.close
     (tie.spec
-    add-out
-    cast-out
     slice-write-out
     slice-write-out-2
     slice-write-out-3
