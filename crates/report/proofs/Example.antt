@@ -3,9 +3,10 @@
 use mathlib.Core.Path.{_≡_, ap}
 use mathlib.Core.List.{List, [], _∷_}
 use Prim.Native.Nat.{ℕ}
+use Rattle.slicing.specs.Useful.{indexOf, gaugeShapes}
 use Rattle.slicing.specs.Merge.{merge}
 use Rattle.slicing.specs.Shapes.{shapes}
-use Rattle.slicing.specs.Fit.{smallest, noTaller, indexOf, place}
+use Rattle.slicing.specs.Fit.{smallest, noTaller, place}
 use Rattle.facefile.specs.Format.{faceOf}
 use Rattle.facefile.proofs.Example.{example as file, example-face}
 use Rattle.rendering.specs.Text.{facesText}
@@ -30,5 +31,5 @@ example =
     0x67 ∷ 0x61 ∷ 0x75 ∷ 0x67 ∷ 0x65 ∷ 0x20 ∷ 0x32 ∷ 0x20 ∷ 0x73 ∷ 0x69 ∷ 0x7A ∷ 0x65 ∷ 0x20 ∷ 0x31 ∷ 0x20 ∷ 0x61 ∷ 0x74 ∷ 0x20 ∷ 0x34 ∷ 0x30 ∷ 0x20 ∷ 0x30 ∷ 0x0A ∷ []
 
 pub example-printed : facesPrinted (faceOf file) ≡ example
-unfolding facesPrinted shapes merge smallest place noTaller indexOf facesText
+unfolding facesPrinted gaugeShapes shapes merge smallest place noTaller indexOf facesText
 example-printed = ap facesPrinted example-face

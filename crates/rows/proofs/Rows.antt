@@ -1,4 +1,4 @@
--- Document 01's "Rows to prove together": each row of one table holds of the definitions that the public contracts cite.
+-- Document 01's "Rows to prove together", with rows of document 02: each row of one table holds of the definitions that the public contracts cite.
 -- The checker computes the definitions at every row, from a file's bytes where the row is about a face.
 use mathlib.Core.Path.{_≡_, refl}
 use mathlib.Core.Bool.{Bool, true, false, _&&_}
@@ -9,10 +9,11 @@ use lib.ListN.{replicate, take}
 use Rattle.checks.specs.Answer.{outcome}
 use Rattle.slicing.specs.Item.{Item, size}
 use Rattle.slicing.specs.Tree.{Tree, sizeCount, leastDepth, mostDepth}
+use Rattle.slicing.specs.Useful.{indexOf, gaugeShapes}
 use Rattle.slicing.specs.Merge.{merge, turn}
 use Rattle.slicing.specs.Shapes.{shapes}
 use Rattle.slicing.specs.Layout.{Outline, outline}
-use Rattle.slicing.specs.Fit.{smallest, noTaller, indexOf, place}
+use Rattle.slicing.specs.Fit.{smallest, noTaller, place}
 use Rattle.sizes.specs.GaugeSizes.{sizesAfter, sizesFrom}
 use Rattle.entries.specs.Entry.{gaugeSizes, gaugeEntry, joinParts, joinEntry, kindEntry, entry, entries}
 use Rattle.facefile.specs.Format.{header, onePart, atEnd, faceOf}
@@ -98,6 +99,21 @@ abbrev equalAreas : List ℕ
 equalAreas =
     0x46 ∷ 0x43 ∷ 0x45 ∷ 0x00 ∷ 0x01 ∷ 0x00 ∷ 0x01 ∷ 0x01 ∷ 0x02 ∷ 0x00 ∷ 0x3C ∷ 0x00 ∷ 0x28 ∷ 0x00 ∷ 0x28 ∷ 0x00 ∷ 0x3C ∷ []
 
+-- Paper 1, a gauge as its maker prints it: sizes 3 and 7 repeat sizes 2 and 1; sizes 4, 5 and 6 are inferior by their width, by their height and by both.
+abbrev printedGauge : List ℕ
+printedGauge =
+    0x01 ∷ 0x08 ∷ 0x00 ∷ 0x28 ∷ 0x00 ∷ 0x3C ∷ 0x00 ∷ 0x3C ∷ 0x00 ∷ 0x28 ∷ 0x00 ∷ 0x3C ∷ 0x00 ∷ 0x28 ∷ 0x00 ∷ 0x3C ∷ 0x00 ∷ 0x32 ∷ 0x00 ∷ 0x32 ∷ 0x00 ∷ 0x3C ∷ 0x00 ∷ 0x46 ∷ 0x00 ∷ 0x46 ∷ 0x00 ∷ 0x28 ∷ 0x00 ∷ 0x3C ∷ 0x00 ∷ 0x32 ∷ 0x00 ∷ 0x32 ∷ []
+
+-- It by itself, in a file of version 2.
+abbrev printed : List ℕ
+printed = 0x46 ∷ 0x43 ∷ 0x45 ∷ 0x00 ∷ 0x02 ∷ 0x00 ∷ 0x01 ∷ printedGauge
+
+-- It left of (30, 50), (50, 30), (30, 50), (50, 40).
+abbrev printedPair : List ℕ
+printedPair =
+    (0x46 ∷ 0x43 ∷ 0x45 ∷ 0x00 ∷ 0x02 ∷ 0x00 ∷ 0x03 ∷ printedGauge)
+    ++ (0x01 ∷ 0x04 ∷ 0x00 ∷ 0x1E ∷ 0x00 ∷ 0x32 ∷ 0x00 ∷ 0x32 ∷ 0x00 ∷ 0x1E ∷ 0x00 ∷ 0x1E ∷ 0x00 ∷ 0x32 ∷ 0x00 ∷ 0x32 ∷ 0x00 ∷ 0x28 ∷ 0x02 ∷ [])
+
 -- Sizes from a height down to 1, each one wider than the one before it.
 abbrev sizesDown : ℕ → ℕ → List ℕ
 sizesDown zero w = []
@@ -130,6 +146,12 @@ rows =
     ∷ fits example (outline 40 110) (face 40 110 4_400 3) (2 ∷ 0 ∷ 0 ∷ 60 ∷ 40 ∷ 2 ∷ 60 ∷ 0 ∷ 50 ∷ 30 ∷ [])
     ∷ fits example (outline 40 109) (noFace 19) []
     ∷ fits equalAreas (outline 64_000 64_000) (face 60 40 2_400 2) (1 ∷ 0 ∷ 0 ∷ 40 ∷ 60 ∷ [])
+    ∷ lists printed (size 60 40 ∷ size 50 50 ∷ size 40 60 ∷ [])
+    ∷ fits printed (outline 64_000 64_000) (face 60 40 2_400 3) (2 ∷ 0 ∷ 0 ∷ 40 ∷ 60 ∷ [])
+    ∷ fits printed (outline 55 55) (face 50 50 2_500 3) (8 ∷ 0 ∷ 0 ∷ 50 ∷ 50 ∷ [])
+    ∷ fits printed (outline 45 64_000) (face 40 60 2_400 3) (1 ∷ 0 ∷ 0 ∷ 60 ∷ 40 ∷ [])
+    ∷ lists printedPair (size 60 70 ∷ size 50 80 ∷ size 40 110 ∷ [])
+    ∷ fits printedPair (outline 64_000 64_000) (face 50 80 4_000 3) (8 ∷ 0 ∷ 0 ∷ 50 ∷ 50 ∷ 2 ∷ 50 ∷ 0 ∷ 30 ∷ 50 ∷ [])
     ∷ tops (lopsided 7 15) 127 1
     ∷ tops (lopsided 8 15) 128 2
     ∷ tops (lopsided 7 63) 511 2
@@ -140,5 +162,5 @@ rows =
     ∷ []
 
 pub rows-hold : all holds rows ≡ true
-unfolding header sizesAfter sizesFrom gaugeSizes gaugeEntry joinParts joinEntry kindEntry entry entries onePart atEnd faceOf merge turn shapes smallest noTaller indexOf place listWords writtenOver timesFour uncutLevel largestPower topLevel word nextWith lastWith sumFrom trueP held walk linksRight linked falling lazyList readItem
+unfolding header sizesAfter sizesFrom gaugeSizes gaugeEntry joinParts joinEntry kindEntry entry entries onePart atEnd faceOf merge turn gaugeShapes shapes smallest noTaller indexOf place listWords writtenOver timesFour uncutLevel largestPower topLevel word nextWith lastWith sumFrom trueP held walk linksRight linked falling lazyList readItem
 rows-hold = refl
