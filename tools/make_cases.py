@@ -6,9 +6,10 @@ with its name; of crates/faces and crates/faces_long some faces.
     python3 tools/make_cases.py --check    writes nothing, and says whether they are as it would write them
 
 tools/making/ has the files: for the reader and the levels (face_files.py), the list call (list_files.py), the fit call
-(fit_files.py), the text of `faces` (text_files.py); the calls that are made on each file (calls.py); the arenas of the
-reading call (arenas.py); pseudo-random cases (random_cases.py); and what `faces` is run on (faces_inputs.py). What is
-expected comes from the models. It stops where they and an answer that was worked out by hand differ.
+(fit_files.py), the text of `faces` (text_files.py), and all of these in version 2 (printed_files.py); the calls that are made
+on each file (calls.py); the arenas of the reading call (arenas.py); pseudo-random cases (random_cases.py); and what `faces` is
+run on (faces_inputs.py). What is expected comes from the models. It stops where they and an answer that was worked out by
+hand differ.
 """
 
 import collections
@@ -17,10 +18,10 @@ import sys
 
 sys.dont_write_bytecode = True
 
-from making import arenas, calls, face_files, faces_inputs, fit_files, list_files, random_cases, text_files
+from making import arenas, calls, face_files, faces_inputs, fit_files, list_files, printed_files, random_cases, text_files
 
 CRATES = pathlib.Path(__file__).resolve().parent.parent / "crates"
-SETS = [face_files, list_files, fit_files, text_files]
+SETS = [face_files, list_files, fit_files, text_files, printed_files]
 
 # How many pseudo-random cases are stored, and where their row starts.
 RANDOM = 300
@@ -47,7 +48,8 @@ def file_cases():
     """The cases of each file."""
     listed = {stored.file for stored in list_files.FILES + fit_files.FILES}
     fitted = {stored.file: fit_files.openings(stored) for stored in fit_files.FILES}
-    printed = {stored.file for stored in text_files.FILES}
+    in_text = {stored.file for stored in text_files.FILES}
+    in_version_2 = {stored.file: printed_files.openings(stored) for stored in printed_files.FILES}
     refused = {stored.file for module in SETS for stored in module.FILES if stored.number != 0}
     found = []
     for file, name in names().items():
@@ -59,8 +61,10 @@ def file_cases():
             found += calls.list_calls(name, file)
         if file in fitted:
             found += calls.fit_calls(name, file, fitted[file])
-        if file in printed:
+        if file in in_text:
             found += calls.text_calls(name, file)
+        if file in in_version_2:
+            found += calls.printed_calls(name, file, in_version_2[file])
     return found
 
 

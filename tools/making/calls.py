@@ -65,32 +65,47 @@ def reader_calls(name, file):
 # The list call
 
 
+class ListCalls:
+    """List calls on a face. Where nothing else is said, they are lent levels that are all 1 and as many words as are asked."""
+
+    def __init__(self, name, file):
+        self.name, self.file = name, file
+        self.face = face_model.read(file)
+        self.need = list_model.output_words(self.face)
+        self.levels = Levels(file, self.face.size_count())
+        self.found = []
+
+    def call(self, what, table=None, arena=WORDS, scratch=WORDS, output=None):
+        table = self.levels.ones if table is None else table
+        output = self.need if output is None else output
+        self.found.append(list_case(f"{self.name}, list, {what}", self.file, table, arena, scratch, output))
+
+    def under_each_table(self):
+        """Calls that are taken, under each table of levels."""
+        longer = self.need + 4
+        self.call("all 1, exact output")
+        self.call("all 8", self.levels.eights, output=longer)
+        self.call("own", self.levels.own, output=longer)
+        self.call("scattered, longer buffers", self.levels.scattered, LONGER, LONGER, longer)
+
+
 def list_calls(name, file):
     """The calls on a face: under each table of levels, those that are refused by 14 to 18, and which no is first."""
-    face = face_model.read(file)
-    sizes, need = face.size_count(), list_model.output_words(face)
-    levels = Levels(file, sizes)
-    found = []
-
-    def call(what, table=levels.ones, arena=WORDS, scratch=WORDS, output=need):
-        found.append(list_case(f"{name}, list, {what}", file, table, arena, scratch, output))
-
-    call("all 1, exact output")
-    call("all 8", levels.eights, output=need + 4)
-    call("own", levels.own, output=need + 4)
-    call("scattered, longer buffers", levels.scattered, LONGER, LONGER, need + 4)
+    calls = ListCalls(name, file)
+    levels, short = calls.levels, calls.need - 1
+    calls.under_each_table()
     for what, table in levels.wrong().items():
-        call(what, table)
-    call("short arena", arena=SHORT)
-    call("short scratch", scratch=SHORT)
-    call("short output", output=need - 1)
-    call("no arena", arena=0)
-    call("no scratch", scratch=0)
-    call("no output", output=0)
-    call("14 to 18 fail", [9] * (sizes + 1), SHORT, SHORT, need - 1)
-    call("15 to 18 fail", levels.last_9, SHORT, SHORT, need - 1)
-    call("17 and 18 fail", levels.ones, SHORT, SHORT, need - 1)
-    return found
+        calls.call(what, table)
+    calls.call("short arena", arena=SHORT)
+    calls.call("short scratch", scratch=SHORT)
+    calls.call("short output", output=short)
+    calls.call("no arena", arena=0)
+    calls.call("no scratch", scratch=0)
+    calls.call("no output", output=0)
+    calls.call("14 to 18 fail", [9] * (calls.face.size_count() + 1), SHORT, SHORT, short)
+    calls.call("15 to 18 fail", levels.last_9, SHORT, SHORT, short)
+    calls.call("17 and 18 fail", levels.ones, SHORT, SHORT, short)
+    return calls.found
 
 
 # ---------------------------------------------------------------------------------------------------------------
@@ -138,6 +153,69 @@ def fit_calls(name, file, openings):
     for opening in openings:
         call(opening_word(opening), levels.own, opening, output=need + 4)
     return found
+
+
+# ---------------------------------------------------------------------------------------------------------------
+# Faces of version 2
+
+
+def left_out(face):
+    """The numbers of the sizes that are on no list."""
+    listed = {item.record for items in list_model.gauge_lists(face) for item in items}
+    return [size for size in range(1, face.size_count() + 1) if size not in listed]
+
+
+def printed_wrong(face, levels):
+    """Levels that are refused by 14 or 15, by their names: where sizes are on no list, by the levels of these."""
+    out = left_out(face)
+    if not out:
+        return {"one level less": levels.ones[:-1], "last level 9": levels.last_9}
+    size = out[0]
+    return {
+        "levels for the useful sizes alone": levels.ones[len(out) :],
+        f"level 9 of size {size}": levels.ones[: size - 1] + [9] + levels.ones[size:],
+    }
+
+
+def printed_list_calls(name, file):
+    """The calls on a face of version 2: under each table of levels, and those that are refused by 14, 15 and 18, which count
+    every printed size."""
+    calls = ListCalls(name, file)
+    listed = 2 * len(list_model.outer_sizes(file))
+    calls.under_each_table()
+    for what, table in printed_wrong(calls.face, calls.levels).items():
+        calls.call(what, table)
+    calls.call("short output", output=calls.need - 1)
+    if listed < calls.need:
+        calls.call("output for the list alone", output=listed)
+    return calls.found
+
+
+def printed_fit_calls(name, file, openings):
+    """The calls on a face of version 2: under each table of levels, those that are refused by 14 and 15, and those with some
+    openings under document 01's own levels."""
+    face = face_model.read(file)
+    need = fit_model.output_words(face)
+    levels = Levels(file, face.size_count())
+    found = []
+
+    def call(what, table, height=LARGEST, width=LARGEST):
+        found.append(fit_case(f"{name}, fit, {what}", file, table, height, width, WORDS, WORDS, need + 4))
+
+    call("all 1", levels.ones)
+    call("all 8", levels.eights)
+    call("scattered", levels.scattered)
+    for what, table in printed_wrong(face, levels).items():
+        call(what, table)
+    for opening in openings:
+        call(opening_word(opening), levels.own, *opening)
+    return found
+
+
+def printed_calls(name, file, openings):
+    """The calls on a face of version 2."""
+    text = text_case(f"{name}, text", file, TEXT_LEAST)
+    return printed_list_calls(name, file) + printed_fit_calls(name, file, openings) + [text]
 
 
 # ---------------------------------------------------------------------------------------------------------------

@@ -24,9 +24,9 @@ def gauge(*sizes, count=None):
     return head + b"".join(two(height) + two(width) for height, width in sizes)
 
 
-def face(*entries):
+def face(*entries, version=1):
     """A file that announces as many entries as it has."""
-    return header(len(entries)) + b"".join(entries)
+    return header(len(entries), version) + b"".join(entries)
 
 
 def entries_of(tree):
@@ -37,5 +37,5 @@ def entries_of(tree):
     return entries_of(older) + entries_of(newer) + [join]
 
 
-def tree_face(tree):
-    return face(*entries_of(tree))
+def tree_face(tree, version=1):
+    return face(*entries_of(tree), version=version)

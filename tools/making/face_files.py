@@ -1,4 +1,4 @@
-"""Files for the checks of the reader and for the levels, with what document 01 says of each, worked out by hand.
+"""Files for the checks of the reader and for the levels, with what documents 01 and 02 say of each, worked out by hand.
 
 A file has its number, with the question that decides it; a taken face also its counts, D, E and the top level. What the
 model says otherwise are `faults`.
@@ -46,15 +46,18 @@ refused("mark-second-byte-more", b"FD" + LONE[2:], 2, "First three FCE? FDE.")
 refused("mark-third-byte-less", b"FCD" + LONE[3:], 2, "First three FCE? FCD.")
 refused("mark-third-byte-more", b"FCF" + LONE[3:], 2, "First three FCE? FCF.")
 refused("mark-lower-case", header(1, mark=b"fce") + ONE, 2, "First three FCE? fce.")
-refused("mark-and-version-wrong", header(1, version=2, mark=b"FCX") + ONE, 2, "First three FCE? Before the version.")
+refused("mark-and-version-wrong", header(1, version=3, mark=b"FCX") + ONE, 2, "First three FCE? Before the version.")
 
-# --- Version 1? 3.
-refused("version-0", header(1, version=0) + ONE, 3, "Version 1? 0.")
-taken("version-1", header(1, version=1) + ONE, 1, 1, 0, 0, 1, "Version 1? Yes.")
-refused("version-2", header(1, version=2) + ONE, 3, "Version 1? 2.")
-refused("version-256", header(1, version=0x0100) + ONE, 3, "Version 1? 256: the high byte is first.")
-refused("version-257", header(1, version=0x0101) + ONE, 3, "Version 1? 257: the high byte counts.")
-refused("version-and-entries-wrong", header(0, version=2), 3, "Version 1? Asked before the entries.")
+# --- Version 1 or 2? 3.
+refused("version-0", header(1, version=0) + ONE, 3, "Version 1 or 2? 0.")
+taken("version-1", header(1, version=1) + ONE, 1, 1, 0, 0, 1, "Version 1 or 2? 1.")
+taken("version-2", header(1, version=2) + ONE, 1, 1, 0, 0, 1, "Version 1 or 2? 2.")
+refused("version-3", header(1, version=3) + ONE, 3, "Version 1 or 2? 3.")
+refused("version-256", header(1, version=0x0100) + ONE, 3, "Version 1 or 2? 256: the high byte is first.")
+refused("version-257", header(1, version=0x0101) + ONE, 3, "Version 1 or 2? 257: the high byte counts.")
+refused("version-258", header(1, version=0x0102) + ONE, 3, "Version 1 or 2? 258: the high byte counts.")
+refused("version-512", header(1, version=0x0200) + ONE, 3, "Version 1 or 2? 512: the high byte is first.")
+refused("version-and-entries-wrong", header(0, version=3), 3, "Version 1 or 2? Asked before the entries.")
 
 # --- Entries 1 to 127? 4.
 refused("entries-0", header(0), 4, "Entries 1 to 127? 0.")
@@ -141,6 +144,18 @@ refused("8-at-size-2-by-1001", face(gauge((1000, 5), (1001, 6))), 8, "For each s
 refused("11-at-entry-2-then-8-at-entry-3", face(ONE, BESIDE, gauge((0, 7))), 11, "For each entry in turn: entry 2.")
 refused("8-at-entry-1-then-11-at-entry-2", face(gauge((0, 7)), BESIDE), 8, "For each entry in turn: 8 at entry 1.")
 
+# --- Version 2 drops check 9: the sizes stand in any order, and all else is asked as in version 1.
+taken("printed-equal-heights", face(gauge((60, 40), (60, 41)), version=2), 1, 2, 0, 0, 1, "Height less? Not asked.")
+taken("printed-equal-widths", face(gauge((60, 40), (59, 40)), version=2), 1, 2, 0, 0, 1, "Width more? Not asked.")
+taken("printed-rising-height", face(gauge((60, 40), (61, 41)), version=2), 1, 2, 0, 0, 1, "Height less? Not asked.")
+taken("printed-falling-width", face(gauge((60, 40), (59, 39)), version=2), 1, 2, 0, 0, 1, "Width more? Not asked.")
+taken("printed-same-size-twice", face(gauge((60, 40), (60, 40)), version=2), 1, 2, 0, 0, 1, "Repeats are counted.")
+refused("printed-0-at-size-3", face(gauge((5, 5), (5, 6), (0, 7)), version=2), 8, "Height 1 to 1,000? 0 at size 3.")
+refused("printed-1001-at-size-2", face(gauge((9, 9), (9, 1001)), version=2), 8, "Inferior, and asked: 1 to 1,000? 1,001.")
+refused("printed-cut", face(gauge((9, 9), (9, 9)), version=2)[:-1], 5, "All bytes of its sizes present? 7 of 8.")
+refused("printed-gauge-65", face(*[ONE] * 65, version=2), 10, "At most the 64th? The 65th.")
+refused("printed-more-byte", face(OTHER, version=2) + b"\x00", 13, "File at its end? A byte more.")
+
 # --- For a join: two parts on the stack? 11.
 refused("join-no-part-beside", face(BESIDE), 11, "Two parts on the stack? None.")
 refused("join-no-part-stacked", face(STACKED), 11, "Two parts on the stack? None.")
@@ -206,6 +221,16 @@ taken("levels-back-512", stairs_face(lopsided_back([8] * 64)), 64, 512, 1, 63, 3
 taken("levels-zigzag-128", stairs_face(zigzag([8] * 16)), 16, 128, 1, 15, 2, "The deepest gauges stand in the middle.")
 taken("levels-balanced-128", stairs_face(balanced([8] * 16)), 16, 128, 4, 4, 1, "2D is 8, E is 4: 1 whatever n is.")
 taken("levels-balanced-512", stairs_face(balanced([8] * 64)), 64, 512, 6, 6, 1, "2D is 12, E is 6: 1 whatever n is.")
+
+# n counts every printed size, also one that is on no list.
+SAME = [(60, 40)]
+taken(
+    "printed-levels-127",
+    tree_face(lopsided([8 * SAME] * 15 + [7 * SAME]), version=2),
+    16, 127, 1, 15, 1,
+    "8 times 16 is more than 127.",
+)
+taken("printed-levels-128", tree_face(lopsided([8 * SAME] * 16), version=2), 16, 128, 1, 15, 2, "8 times 16 is 128.")
 
 # Trees whose D and E stand just on either side of the test, with n large enough for it to show.
 EIGHT = balanced([8] * 8)  # 8 gauges, 3 joins above each

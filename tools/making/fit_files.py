@@ -286,16 +286,17 @@ def least_faults(stored, face_read, opening, fitted):
     return [f"{stored.name} in {opening}: the model {area}, all {what} {least}" for what, least in found if least != area]
 
 
-def taken_faults(stored):
+def opening_faults(stored, opening):
+    """What is wrong with the model's answer in an opening."""
     face_read = face_model.read(stored.file)
-    faults = []
-    for opening in openings(stored):
-        fitted = fit_model.fit_call(stored.file, [1] * face_read.size_count(), *opening)
-        if not in_range(opening):
-            faults += [] if fitted.number == 16 else [f"{stored.name} in {opening}: {fitted.number}"]
-            continue
-        faults += by_hand_fault(stored, opening, fitted) + least_faults(stored, face_read, opening, fitted)
-    return faults
+    fitted = fit_model.fit_call(stored.file, [1] * face_read.size_count(), *opening)
+    if not in_range(opening):
+        return [] if fitted.number == 16 else [f"{stored.name} in {opening}: {fitted.number}"]
+    return by_hand_fault(stored, opening, fitted) + least_faults(stored, face_read, opening, fitted)
+
+
+def taken_faults(stored):
+    return [fault for opening in openings(stored) for fault in opening_faults(stored, opening)]
 
 
 def faults():

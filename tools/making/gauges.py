@@ -93,3 +93,46 @@ def alternating_many(gauges=64):
     return lopsided_either(long_both_ways(5, gauges), [BESIDE, STACKED], Numbers(5))
 
 
+# ---------------------------------------------------------------------------------------------------------------
+# Sizes as the makers print them, for files of version 2
+
+
+def shuffled(numbers, sizes):
+    left = list(sizes)
+    return [left.pop(numbers.below(len(left))) for _ in sizes]
+
+
+def more(numbers, length):
+    """The length itself, or a greater one."""
+    return min(1000, length + numbers.below(2) * (1 + numbers.below(30)))
+
+
+def printed(numbers, sizes):
+    """These sizes and as many more of them, eight at most, in any order: repeats, and sizes that are taller, wider or
+    both."""
+    found = list(sizes)
+    while len(found) < min(8, 2 * len(sizes)):
+        height, width = sizes[numbers.below(len(sizes))]
+        found.append((more(numbers, height), more(numbers, width)))
+    return shuffled(numbers, found)
+
+
+def all_shuffled(start, gauges):
+    numbers = Numbers(start)
+    return [shuffled(numbers, sizes) for sizes in gauges]
+
+
+def all_printed(start, gauges):
+    numbers = Numbers(start)
+    return [printed(numbers, sizes) for sizes in gauges]
+
+
+def any_pairs(start, gauges, most_sizes, most):
+    """Gauges of any pairs of lengths up to most."""
+    numbers = Numbers(start)
+    return [
+        [(1 + numbers.below(most), 1 + numbers.below(most)) for _ in range(1 + numbers.below(most_sizes))]
+        for _ in range(gauges)
+    ]
+
+

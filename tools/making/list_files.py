@@ -167,7 +167,7 @@ taken("alternating-64-many", tree_face(alternating_many()), "A long list, turned
 ONE = gauge((60, 40))
 refused("no-1", b"FCE\x00\x01\x00", 1, "7 bytes or more? 6.")
 refused("no-2", b"FCX" + face(ONE)[3:], 2, "First three FCE? FCX.")
-refused("no-3", header(1, version=2) + ONE, 3, "Version 1? 2.")
+refused("no-3", header(1, version=3) + ONE, 3, "Version 1 or 2? 3.")
 refused("no-4", header(0), 4, "Entries 1 to 127? 0.")
 refused("no-5", face(ONE)[:12], 5, "All bytes of its sizes present? 3 of 4.")
 refused("no-6", header(1) + b"\x04" + ONE[1:], 6, "Kind 01, 02 or 03? 04.")

@@ -25,6 +25,31 @@ def sizes(rng, pool, most):
     return list(zip(heights, sorted(rng.sample(pool, count))))
 
 
+def longer(rng, length):
+    """The length itself, or a greater one."""
+    return min(1000, length + rng.choice([0, 0, 1, rng.randint(1, 300)]))
+
+
+def no_better(rng, size):
+    """The size again, or one that is inferior to it."""
+    height, width = size
+    return longer(rng, height), longer(rng, width)
+
+
+def printed(rng, pool, ordered):
+    """The sizes of a gauge of version 2: as many pairs of any lengths from the pool as there are ordered sizes; or these
+    sizes, in order or in any order, or with repeats and inferior ones among them."""
+    kind = rng.randrange(4)
+    if kind == 0:
+        return [(rng.choice(pool), rng.choice(pool)) for _ in ordered]
+    if kind == 1:
+        return ordered
+    others = rng.randint(0, 8 - len(ordered)) if kind == 2 else 0
+    found = ordered + [no_better(rng, rng.choice(ordered)) for _ in range(others)]
+    rng.shuffle(found)
+    return found
+
+
 def spread(rng):
     """Eight sizes from the highest to the widest. Faces of such gauges have long lists."""
     steps = range(0, 1000, 125)
@@ -58,28 +83,36 @@ def gauge_count(rng, large):
 
 
 def face(rng, large=0.04):
-    """A file that is taken. So many of all are large ones."""
+    """A file that is taken, of either version. So many of all are large ones."""
     count = gauge_count(rng, large)
     pool = numbers(rng)
     most = rng.choice([1, 2, 3, 8])
     wide = rng.random() < 0.2
-    gauges = [face_bytes.gauge(*(spread(rng) if wide else sizes(rng, pool, most))) for _ in range(count)]
+    gauges = [spread(rng) if wide else sizes(rng, pool, most) for _ in range(count)]
+    version = rng.choice([1, 2])
+    if version == 2:
+        gauges = [printed(rng, pool, ordered) for ordered in gauges]
     shape = rng.choice(["left", "right", "even", "any"]), rng.choice(["beside", "stacked", "turns", "any"])
-    entries = joined(rng, gauges, shape)
-    return face_bytes.face(*entries)
+    entries = joined(rng, [face_bytes.gauge(*of_gauge) for of_gauge in gauges], shape)
+    return face_bytes.face(*entries, version=version)
 
 
 def lopsided(rng):
-    """A file that is taken, of a deep tree and so many sizes that its top level is at an end of document 01's rule."""
+    """A file that is taken, of either version, of a deep tree and so many sizes that its top level is at an end of document
+    01's rule. In version 2 a gauge may have one size only, printed again and again."""
+    version = rng.choice([1, 2])
     left = rng.choice([31, 32, 127, 128, 129, 511, 512, rng.randint(16, 512)])
     count = rng.randint((left + 7) // 8, min(64, left))
     gauges = []
     for others in range(count - 1, -1, -1):
         own = rng.randint(max(1, left - 8 * others), min(8, left - others))
-        gauges.append(face_bytes.gauge(*spread(rng)[:own]))
+        of_gauge = spread(rng)[:own]
+        if version == 2:
+            of_gauge = rng.choices(of_gauge[: rng.randint(1, own)], k=own)
+        gauges.append(face_bytes.gauge(*of_gauge))
         left -= own
     entries = joined(rng, gauges, (rng.choice(["left", "right", "even", "any"]), "any"))
-    return face_bytes.face(*entries)
+    return face_bytes.face(*entries, version=version)
 
 
 def odd_byte(rng):
@@ -92,12 +125,12 @@ def too_many(rng):
     pairs = sizes(rng, numbers(rng), 2)
     joins = [bytes([rng.randint(2, 3)]) for _ in range(rng.randint(0, min(count, 127 - count)))]
     entries = [face_bytes.gauge(*pairs) for _ in range(count)] + joins
-    return face_bytes.face(*entries)
+    return face_bytes.face(*entries, version=rng.choice([1, 2]))
 
 
 def damaged(rng, file):
-    """The file changed at a random place, cut short, lengthened, or with the count of entries wrong."""
-    kind = rng.randrange(9)
+    """The file changed at a random place, cut short, lengthened, or with another version or count of entries."""
+    kind = rng.randrange(10)
     place = rng.randrange(len(file))
     if kind <= 2:
         return file[:place] + bytes([odd_byte(rng)]) + file[place + 1 :]
@@ -112,13 +145,16 @@ def damaged(rng, file):
     if kind == 7 and len(file) >= 7:
         entries = max(0, min(65535, file[5] * 256 + file[6] + rng.choice([-1, 1, -2, 2, 256, 127])))
         return file[:5] + face_bytes.two(entries) + file[7:]
+    if kind == 8:
+        return file[:3] + face_bytes.two(rng.choice([0, 1, 1, 1, 2, 2, 3, 257, 258, 512])) + file[5:]
     return too_many(rng)
 
 
 def noise(rng):
     """Random bytes, after a header or not."""
-    headers = [face_bytes.header(rng.randint(0, 130)), face_bytes.header(rng.randint(1, 5))]
-    start = rng.choice([b"", b"FCE", b"FCE\0\1", *headers])
+    version = rng.choice([1, 2])
+    headers = [face_bytes.header(rng.randint(0, 130), version), face_bytes.header(rng.randint(1, 5), version)]
+    start = rng.choice([b"", b"FCE", b"FCE\0\1", b"FCE\0\2", *headers])
     few = rng.random() < 0.5
     return start + bytes(rng.randint(0, 4) if few else rng.randrange(256) for _ in range(rng.randint(0, 40)))
 

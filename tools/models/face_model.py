@@ -1,8 +1,9 @@
-"""A model of the face file, for making tests: document 01's checks 1 to 14, gauge bytes and levels.
+"""A model of the face file, for making tests: document 01's checks 1 to 14, gauge bytes and levels, in the file versions
+of document 02's paper 1.
 
-It is written from the text of document 01, "Milled instrument faces", and shares nothing with the Rattle code. It
-is meant to be read beside that text, so it is plain and slow: it builds the tree and walks it to count joins.
-Words between quotation marks are the document's.
+It is written from the text of document 01, "Milled instrument faces", and of paper 1, "Sizes as the makers print them", and
+shares nothing with the Rattle code. It is meant to be read beside that text, so it is plain and slow: it builds the tree and
+walks it to count joins. Words between quotation marks are the documents'.
 """
 
 import dataclasses
@@ -18,8 +19,9 @@ class Refused(Exception):
 
 @dataclasses.dataclass
 class Face:
-    """A taken file: its tree, and for each gauge in file order the bytes of its sizes and the sizes. A tree is
-    ("gauge",), or a join with its older and its newer part: ("beside", older, newer) or ("stacked", older, newer)."""
+    """A taken file: its tree, and for each gauge in file order the bytes of its sizes and the sizes, each of them as
+    printed. A tree is ("gauge",), or a join with its older and its newer part: ("beside", older, newer) or ("stacked",
+    older, newer)."""
 
     tree: tuple
     gauges: list
@@ -44,10 +46,11 @@ def field(file, place):
 
 def read(file):
     """Checks 1 to 13, in the order of the text. Returns a Face or raises Refused."""
-    # "7 bytes or more? 1. First three `FCE`? 2. Version 1? 3. Entries 1 to 127? 4."
+    # "7 bytes or more? 1. First three `FCE`? 2. Version 1? 3. Entries 1 to 127? 4."; "Check 3 takes 1 and 2"
     ask(len(file) >= 7, 1)
     ask(file[0:3] == bytes([0x46, 0x43, 0x45]), 2)
-    ask(field(file, 3) == 1, 3)
+    version = field(file, 3)
+    ask(version in (1, 2), 3)
     entries = field(file, 5)
     ask(1 <= entries <= 127, 4)
 
@@ -70,7 +73,7 @@ def read(file):
             ask(place + 4 * count <= len(file), 5)
             part = file[place : place + 4 * count]
             place += 4 * count
-            gauges.append((part, read_sizes(part)))
+            gauges.append((part, read_sizes(part, version)))
             stack.append(("gauge",))
         else:
             # "two parts on the stack? 11."; "It takes the two newest parts off a stack and leaves one part."
@@ -84,15 +87,16 @@ def read(file):
     return Face(stack[0], gauges)
 
 
-def read_sizes(part):
+def read_sizes(part, version):
     # "For each size in turn: height and width both 1 to 1,000? 8. From the second size on, height less and width
-    # more than the size before? 9." Both questions are asked of a size before the next size is looked at.
+    # more than the size before? 9." Both questions are asked of a size before the next size is looked at. "File version 2
+    # drops check 9."
     sizes = []
     for start in range(0, len(part), 4):
         height = field(part, start)
         width = field(part, start + 2)
         ask(1 <= height <= 1000 and 1 <= width <= 1000, 8)
-        if sizes:
+        if sizes and version == 1:
             height_before, width_before = sizes[-1]
             ask(height < height_before and width > width_before, 9)
         sizes.append((height, width))

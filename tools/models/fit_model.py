@@ -1,12 +1,14 @@
-"""A model of the fit call, for making tests: document 01's "Fit" and the fit call's checks.
+"""A model of the fit call, for making tests: document 01's "Fit" and the fit call's checks, with the sizes of document
+02's paper 1.
 
-It is written from the text of document 01, "Milled instrument faces", and shares nothing with the Rattle code. Checks
-1 to 13 and the tree are those of face_model.py, the list of each part is that of list_model.py. Words between
-quotation marks are the document's.
+It is written from the text of document 01, "Milled instrument faces", and of paper 1, "Sizes as the makers print them", and
+shares nothing with the Rattle code. Checks 1 to 13 and the tree are those of face_model.py, the list of each part is that of
+list_model.py. Words between quotation marks are the documents'.
 
 A layout is a row of places in file order, one for each gauge. `is_layout` says what a layout is, and `best_by_choices`
-and `best_by_places` look for the smallest area without any list: over all choices of sizes with their parts pushed
-together, and, for the smallest faces, over all sizes and all places in the opening.
+and `best_by_places` look for the smallest area without any list, "among layouts from every printed size, useful or not":
+over all choices of sizes with their parts pushed together, and, for the smallest faces, over all sizes and all places in
+the opening.
 """
 
 import dataclasses
@@ -22,14 +24,14 @@ OPENING = 64000
 
 @dataclasses.dataclass
 class Part:
-    """A part of the face: its join or "gauge", its list by falling height, its two parts, and the numbers from 0 of
-    its first gauge and of the one after its last."""
+    """A part of the face: its join or "gauge", its list by falling height, of a gauge its sizes as printed, of a join its
+    two parts, and the number from 0 of the gauge after its last."""
 
     join: str
     items: list
+    sizes: list
     older: "Part"
     newer: "Part"
-    first: int
     end: int
 
 
@@ -52,21 +54,22 @@ class Placed:
 # The face that is picked, and its layout
 
 
-def parts_of(tree, lists, first=0):
+def parts_of(tree, face, lists, first=0):
     """The tree with the list of each part. Gauges are counted in file order, from `first` on."""
     if tree[0] == "gauge":
-        return Part("gauge", lists[first], None, None, first, first + 1)
+        _, sizes = face.gauges[first]
+        return Part("gauge", lists[first], sizes, None, None, first + 1)
     join, older_tree, newer_tree = tree
-    older = parts_of(older_tree, lists, first)
-    newer = parts_of(newer_tree, lists, older.end)
-    return Part(join, list_model.joined(older.items, newer.items, join), older, newer, first, newer.end)
+    older = parts_of(older_tree, face, lists, first)
+    newer = parts_of(newer_tree, face, lists, older.end)
+    return Part(join, list_model.joined(older.items, newer.items, join), [], older, newer, newer.end)
 
 
 @functools.lru_cache(maxsize=None)
 def root_part(file):
     """The root of a taken file."""
     face = face_model.read(file)
-    return parts_of(face.tree, list_model.gauge_lists(face))
+    return parts_of(face.tree, face, list_model.gauge_lists(face))
 
 
 def picked(items, height, width):
@@ -94,8 +97,8 @@ def layout(part, item, across, up):
     """The places of a part's gauges, where the part has this item and its lower left corner stands there."""
     # "The layout goes down the tree: first the left or lower part, then the other, down to the gauges."
     if part.join == "gauge":
-        # "A gauge sits in the lower left corner of its part."
-        size = 1 + [other.height for other in part.items].index(item.height)
+        # "A gauge sits in the lower left corner of its part."; "of equal pairs the lowest number stays"
+        size = 1 + part.sizes.index((item.height, item.width))
         return [Placed(size, across, up, item.width, item.height)]
     if part.join == "stacked":
         lower, upper = lowest(part.older.items, item.width), lowest(part.newer.items, item.width)
@@ -115,7 +118,7 @@ def edges(placed):
 # What a layout is
 
 
-def takes_listed_sizes(face, placed):
+def takes_printed_sizes(face, placed):
     # "A layout gives each gauge one of its sizes and a place, the whole numbers across and up of its lower left
     # corner, from zero."
     if len(placed) != face.gauge_count():
@@ -149,7 +152,7 @@ def has_lines(tree, placed):
 
 
 def is_layout(face, placed):
-    return takes_listed_sizes(face, placed) and has_lines(face.tree, placed)
+    return takes_printed_sizes(face, placed) and has_lines(face.tree, placed)
 
 
 # ---------------------------------------------------------------------------------------------------------------
@@ -157,7 +160,7 @@ def is_layout(face, placed):
 
 
 def best_by_choices(face, height, width):
-    """The least area of a face of one choice of size per gauge, its parts pushed together, that is inside the opening;
+    """The least area of a face of one printed size per gauge, its parts pushed together, that is inside the opening;
     None where none is. No layout of a choice is lower or narrower than its parts pushed together."""
     every = itertools.product(*(sizes for _, sizes in face.gauges))
     found = [list_model.extent(face.tree, iter(choice)) for choice in every]

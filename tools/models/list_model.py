@@ -1,9 +1,9 @@
 """A model of the list call and of the reading call after it, for making tests: document 01's "Outer sizes", "Lazy
-lists" and the list call's checks.
+lists" and the list call's checks, and the list of a gauge of document 02's paper 1.
 
-It is written from the text of document 01, "Milled instrument faces", and shares nothing with the Rattle code: a
-part's list is every pair of its parts' items, with the inferior ones taken out. Checks 1 to 13 and the tree are those
-of face_model.py. Words between quotation marks are the document's.
+It is written from the text of document 01, "Milled instrument faces", and of paper 1, "Sizes as the makers print them", and
+shares nothing with the Rattle code: a part's list is every pair of its parts' items, with the inferior ones taken out.
+Checks 1 to 13 and the tree are those of face_model.py. Words between quotation marks are the documents'.
 """
 
 import dataclasses
@@ -70,23 +70,37 @@ def joined(older, newer, join):
     pairs = least_of_each_m(paired(a, b, join) for a, b in itertools.product(older, newer))
     kept = [pair for pair in pairs if not is_inferior(pair, pairs)]
     if join == "stacked":
-        items = [Item(p, m, record) for m, p, record in kept]
-    else:
-        items = [Item(m, p, record) for m, p, record in kept]
+        return in_order([Item(p, m, record) for m, p, record in kept])
+    return in_order([Item(m, p, record) for m, p, record in kept])
+
+
+def in_order(items):
     # "The list of a part is ordered by strictly falling height and strictly rising width."
-    items.sort(key=lambda item: -item.height)
-    for before, after in zip(items, items[1:]):
+    ordered = sorted(items, key=lambda item: -item.height)
+    for before, after in zip(ordered, ordered[1:]):
         assert before.height > after.height and before.width < after.width
-    return items
+    return ordered
+
+
+def gauge_list(sizes, before):
+    """The list of a gauge from its sizes as printed, which come after so many others in the file: those that are useful,
+    with their numbers over the whole file."""
+    # "The list of a gauge is then its sizes without inferior ones; of equal pairs the lowest number stays. The sizes left
+    # out keep their numbers and levels but are on no list."
+    lowest = {}
+    for number, size in enumerate(sizes, before + 1):
+        lowest.setdefault(size, number)
+    different = [(height, width, number) for (height, width), number in lowest.items()]
+    return in_order([Item(*size) for size in different if not is_inferior(size, different)])
 
 
 def gauge_lists(face):
-    """The list of each gauge in file order: its sizes as printed, with their numbers over the whole file."""
+    """The list of each gauge in file order."""
     lists = []
-    number = 0
+    before = 0
     for _, sizes in face.gauges:
-        lists.append([Item(height, width, number + i) for i, (height, width) in enumerate(sizes, 1)])
-        number += len(sizes)
+        lists.append(gauge_list(sizes, before))
+        before += len(sizes)
     return lists
 
 
@@ -131,8 +145,8 @@ def choices(face):
 
 
 def sizes_by_choices(face):
-    """The (height, width) of every choice of one size per gauge, without those that another is no taller and no wider
-    than, by falling height."""
+    """The (height, width) of every choice of one printed size per gauge, without those that another is no taller and no
+    wider than, by falling height."""
     every = {extent(face.tree, iter(choice)) for choice in itertools.product(*(sizes for _, sizes in face.gauges))}
     kept = [a for a in every if not any(b != a and b[0] <= a[0] and b[1] <= a[1] for b in every)]
     return sorted(kept, reverse=True)
