@@ -26,6 +26,9 @@ static inline bool runs_across(uint32_t part, uint32_t join) {
     return (part == JOIN_STACKED) != (join == JOIN_STACKED);
 }
 
+// Whether check 9 is asked of the file's gauges: its version is 1.
+static inline bool asks_order(bytes file) { return file.bytes[4] == 1; }
+
 // A size of a file: the height in the high half of a word, the width in the low half.
 static inline uint32_t size_word(const uint8_t *size) {
     uint32_t word;

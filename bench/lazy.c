@@ -9,6 +9,7 @@
 #include <string.h>
 
 #include "face.h"
+#include "useful.h"
 
 #define INLINE static inline __attribute__((always_inline))
 
@@ -38,8 +39,9 @@ INLINE void put_first(uint32_t *head, uint32_t *x, uint32_t r, uint32_t level, u
     hook(head, x, r, level);
 }
 
-void lazy_load(uint32_t *arena, size_t head, size_t first, const uint8_t *sizes, const uint8_t *levels, size_t count,
-               bool across) {
+// The sizes as they stand.
+static void load_all(uint32_t *arena, size_t head, size_t first, const uint8_t *sizes, const uint8_t *levels,
+                     size_t count, bool across) {
     uint32_t *h = record(arena, head), next = 0;
     clear_head(h);
     if (across) {
@@ -60,6 +62,26 @@ void lazy_load(uint32_t *arena, size_t head, size_t first, const uint8_t *sizes,
         }
     }
     h[FORWARD] = next;
+}
+
+static void load_places(uint32_t *arena, size_t head, size_t first, const uint8_t *sizes, const uint8_t *levels,
+                        const uint8_t *places, size_t count, bool across) {
+    uint32_t *h = record(arena, head), next = 0;
+    clear_head(h);
+    for (size_t i = 0; i < count; i++) {
+        size_t k = places[across ? i : count - 1 - i];
+        uint32_t size = size_word(sizes + 4 * k), r = (uint32_t)(first + k);
+        uint32_t m = across ? size & 0xFFFF : size >> 16, p = across ? size >> 16 : size & 0xFFFF;
+        put_first(h, record(arena, r), r, levels[k], m, p, next);
+        next = r;
+    }
+    h[FORWARD] = next;
+}
+
+void lazy_load(uint32_t *arena, size_t head, size_t first, const uint8_t *sizes, const uint8_t *levels,
+               const uint8_t *places, size_t count, bool across) {
+    if (places == NULL) load_all(arena, head, first, sizes, levels, count, across);
+    else load_places(arena, head, first, sizes, levels, places, count, across);
 }
 
 // ---- walks of a whole list

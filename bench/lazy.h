@@ -12,10 +12,11 @@ enum { LEVEL = 0, M = 1, P = 2, FORWARD = 3, ADJUST = 11, STRIDE = 19 };
 
 enum { LINKS = 8, WORDS = 16384 };
 
-// Makes the list of a head of a gauge's sizes, four bytes a size, in the records from first on: by falling height, or,
-// where it is to run across, by falling width.
-void lazy_load(uint32_t *arena, size_t head, size_t first, const uint8_t *sizes, const uint8_t *levels, size_t count,
-               bool across);
+// Makes the list of a head of a gauge's sizes, four bytes a size: by falling height, or, where it is to run across, by
+// falling width. The list has the sizes at so many places, or, where these are NULL, so many sizes as they stand. The size
+// at place 0 has the record first.
+void lazy_load(uint32_t *arena, size_t head, size_t first, const uint8_t *sizes, const uint8_t *levels,
+               const uint8_t *places, size_t count, bool across);
 
 // Turns the list of a head: m and p change places and the order reverses.
 void lazy_turn(uint32_t *arena, size_t head);

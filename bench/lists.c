@@ -3,6 +3,7 @@
 
 #include "lazy.h"
 #include "plain.h"
+#include "useful.h"
 
 // ---- lazy lists: a gauge's list is made where it is joined, so that it need not be turned
 
@@ -18,7 +19,10 @@ typedef struct {
 static void lazy_face(bytes file, bytes levels, uint32_t *arena, size_t head, const pending *part, bool across) {
     if (part->kind == GAUGE) {
         const uint8_t *entry = file.bytes + part->at;
-        lazy_load(arena, head, part->size + 1, entry + 2, levels.bytes + part->size, entry[1], across);
+        uint8_t room[MOST_SIZES];
+        size_t count = entry[1];
+        const uint8_t *places = list_places(file, entry + 2, &count, room);
+        lazy_load(arena, head, part->size + 1, entry + 2, levels.bytes + part->size, places, count, across);
     } else if (across) {
         lazy_turn(arena, head);
     }
@@ -79,10 +83,12 @@ static part plain_build(bytes file) {
     while (at < file.length) {
         uint8_t kind = file.bytes[at++];
         if (kind == GAUGE) {
-            size_t count = file.bytes[at++];
-            plain_load(file.bytes + at, count, free);
+            uint8_t places_room[MOST_SIZES];
+            size_t printed = file.bytes[at++], count = printed;
+            const uint8_t *places = list_places(file, file.bytes + at, &count, places_room);
+            plain_load(file.bytes + at, places, count, free);
             stack[parts++] = (part){free, count, kind};
-            at += 4 * count;
+            at += 4 * printed;
         } else {
             parts--;
             plain_join(&stack[parts - 1], &stack[parts], kind, free);

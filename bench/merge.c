@@ -40,7 +40,7 @@ static void make_list(size_t k) {
         put_size(sizes + 4 * (r - 1), records[r - 1]);
         levels[r - 1] = (uint8_t)level_of(r);
     }
-    lazy_load(fresh, LIST, 1, sizes, levels, k, false);
+    lazy_load(fresh, LIST, 1, sizes, levels, NULL, k, false);
 }
 
 // A fresh arena with the list and, as record K + 1, the item.
@@ -48,7 +48,7 @@ static void make_arena(size_t k, uint32_t one) {
     uint8_t size[4], level = (uint8_t)level_of(k + 1);
     memcpy(arena, fresh, sizeof arena);
     put_size(size, one);
-    lazy_load(arena, ITEM, k + 1, size, &level, 1, false);
+    lazy_load(arena, ITEM, k + 1, size, &level, NULL, 1, false);
 }
 
 static bool is_as_merged(size_t expected) {

@@ -2,11 +2,12 @@
 #include "plain.h"
 
 #include "face.h"
+#include "useful.h"
 
 #define INLINE static inline __attribute__((always_inline))
 
-void plain_load(const uint8_t *sizes, size_t count, uint32_t *to) {
-    for (size_t i = 0; i < count; i++) to[i] = size_word(sizes + 4 * i);
+void plain_load(const uint8_t *sizes, const uint8_t *places, size_t count, uint32_t *to) {
+    for (size_t i = 0; i < count; i++) to[i] = size_word(sizes + 4 * place_of(places, i));
 }
 
 // What is left of a list: its next item, and where it ends.

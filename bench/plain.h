@@ -11,8 +11,9 @@
 // An item read the other way: m and p change places.
 static inline uint32_t swapped(uint32_t item) { return item << 16 | item >> 16; }
 
-// Writes the list of a gauge's sizes, four bytes a size, by height.
-void plain_load(const uint8_t *sizes, size_t count, uint32_t *to);
+// Writes the list of a gauge's sizes, four bytes a size, by height: those at so many places, or, where these are NULL, so
+// many as they stand.
+void plain_load(const uint8_t *sizes, const uint8_t *places, size_t count, uint32_t *to);
 
 // Writes the merge of two lists of one item or more, each read as it runs or across, and returns its length.
 size_t plain_merge(const uint32_t *a, size_t length_a, bool across_a, const uint32_t *b, size_t length_b, bool across_b,

@@ -1,10 +1,14 @@
 // See stored.h. The scratch has a table of the parts in the order of their entries, and after it their lists, as plain
-// arrays. m is the width in a stacked part's list, and the height in all others.
+// arrays. m is the width in a stacked part's list, and the height in all others. Behind a gauge's list stand the places of
+// its items among the gauge's sizes, one byte each.
 #include "stored.h"
 
 #include "plain.h"
+#include "useful.h"
 
-enum { PARTS = 127 };
+enum { PARTS = 127, PLACES_WORDS = 2 };
+
+static const uint8_t in_order[MOST_SIZES] = {0, 1, 2, 3, 4, 5, 6, 7};
 
 typedef struct {
     uint32_t from, count, kind, gauges;
@@ -22,10 +26,14 @@ static size_t store_lists(bytes file, uint32_t *scratch) {
     for (; at < file.length; p++) {
         uint8_t kind = file.bytes[at++];
         if (kind == GAUGE) {
-            uint32_t count = file.bytes[at++];
-            plain_load(file.bytes + at, count, scratch + to);
-            table[p] = (part){to, count, kind, 1};
-            at += 4 * count;
+            uint8_t room[MOST_SIZES];
+            size_t printed = file.bytes[at++], count = printed;
+            const uint8_t *places = list_places(file, file.bytes + at, &count, room);
+            plain_load(file.bytes + at, places, count, scratch + to);
+            memcpy(scratch + to + count, places == NULL ? in_order : places, MOST_SIZES);
+            table[p] = (part){to, (uint32_t)count, kind, 1};
+            at += 4 * printed;
+            to += PLACES_WORDS;
         } else {
             const part *newer = &table[p - 1], *older = &table[p - 2 * newer->gauges];
             uint32_t count = plain_merge(scratch + older->from, older->count, runs_across(older->kind, kind),
@@ -78,17 +86,17 @@ static uint32_t take(const uint32_t *scratch, const part *p, uint32_t join, uint
     return list[low];
 }
 
-// The number of the size of a gauge that has this height.
-static uint32_t size_number(const uint32_t *list, uint32_t height) {
-    uint32_t k = 0;
+// The number of the size of a gauge's list that has this height.
+static uint32_t size_number(const uint32_t *list, size_t count, uint32_t height) {
+    size_t k = 0;
     while (list[k] >> 16 != height) k++;
-    return k + 1;
+    return ((const uint8_t *)(list + count))[k] + 1u;
 }
 
 // Lays a part out that takes an item, given as height and width packed, with its lower left corner at x, y.
 static void lay(const uint32_t *scratch, const part *p, uint32_t z, uint32_t x, uint32_t y, uint32_t *out) {
     if (p->kind == GAUGE) {
-        out[0] = size_number(scratch + p->from, z >> 16);
+        out[0] = size_number(scratch + p->from, p->count, z >> 16);
         out[1] = x;
         out[2] = y;
         out[3] = z & 0xFFFF;

@@ -16,6 +16,8 @@ cd "$(dirname "$0")/.."
 SECONDS=0
 faces='row-of-64 row-of-64-back row-of-64-balanced pile-of-64 pile-of-64-balanced lopsided-64 lopsided-64-back
     balanced-64 balanced-64-stacked mixed-64 alternating-64 alternating-64-back alternating-64-many'
+printed='mixed-64-ordered mixed-64-shuffled mixed-64-repeated
+    row-of-64-ordered row-of-64-shuffled row-of-64-repeated'
 families='lopsided balanced alternating'
 gauges='8 16 32 64'
 tables='own uncut ones eights scattered'
@@ -115,6 +117,7 @@ profile_all() {
     profile_merges
     for table in $tables; do profile_calls $table $faces; done
     for table in own scattered; do profile_calls $table $(growing); done
+    profile_calls own $printed
     profile_process
 }
 
@@ -234,6 +237,18 @@ fit_table() {
     done
 }
 
+# The faces of version 2.
+printed_table() {
+    header face items 'list, Rattle' "${c_names[@]}" 'fit, Rattle' 'own part, Rattle' "${c_names[@]}"
+    for face in $printed; do
+        read -r items _ <"$work/$face-own.printed"
+        fit=$(rattle rattle_fit $face-own)
+        build=$(rattle rattle_build $face-own)
+        row $face "$items" "$(list_cells $face-own)" "$fit" "$(beside_c $((fit - build)) \
+            "$(inside stored_fit $face-own-gcc)" "$(inside stored_fit $face-own-clang)")"
+    done
+}
+
 # Each program makes the call twice.
 reading_table() {
     header levels Rattle "${c_names[@]}"
@@ -276,6 +291,7 @@ print_all() {
     with '## Growth' growth_table own
     with 'Under scattered levels:' growth_table scattered
     with '## The fit call' fit_table
+    with '## Sizes as they are printed' printed_table
     with '## The reading call' reading_table
     with '## The program faces' process_table
     with '## Stack' stack_table
@@ -285,9 +301,9 @@ print_all() {
 
 echo 'Proving the calls and building the programs.' >&2
 make_library
-compile merge merge.c lazy.c plain.c
-compile calls calls.c lists.c lazy.c plain.c reading.c stored.c face.c
-PYTHONPATH=tools python3 -B -m making.bench_faces "$work" $faces $(growing)
+compile merge merge.c lazy.c plain.c useful.c
+compile calls calls.c lists.c lazy.c plain.c useful.c reading.c stored.c face.c
+PYTHONPATH=tools python3 -B -m making.bench_faces "$work" $faces $(growing) $printed
 profile_all
 print_all | tee "$work/tables"
 if [ "${1:-}" = --write ]; then python3 -B tools/making/put_tables.py "$page" "$work/tables"; fi
