@@ -1,6 +1,6 @@
 #!/usr/bin/env python3
 """Lists the definitions that a reader has to believe: those that the contracts of the public calls reach, and those
-that the statements of the demands' theorems reach beyond them.
+that the statements of the demands' and the papers' theorems reach beyond them.
 
     python3 tools/definitions.py            prints both tables, file by file with the lines of each
     python3 tools/definitions.py --check    says whether docs/TRUST.md has them as they are printed, and whether just the
@@ -35,6 +35,11 @@ THEOREMS = [
     ("slicing/proofs/Demand3.antt", "nothing-exactly"),
     ("slicing/proofs/Demand3.antt", "nothing-where-none"),
     ("slicing/proofs/MergeLaws.antt", "maxplus"),
+    ("slicing/proofs/GaugeUseful.antt", "gauge-useful"),
+    ("slicing/proofs/GaugeUseful.antt", "ordered-same"),
+    ("slicing/proofs/Numbers.antt", "gauge-numbers"),
+    ("slicing/proofs/Numbers.antt", "recorded-only"),
+    ("facefile/proofs/Version1.antt", "version-1"),
 ]
 
 IMPORT = re.compile(r"^(?:ghost |pub )*use Rattle·(\w+)(?:·\w+)?\.(specs|proofs)\.((?:inside\.)?\w+)\.\{([^}]*)\}", re.M)
@@ -137,7 +142,7 @@ def main():
         print("docs/TRUST.md has the tables as they are, and specs/inside/ has the others")
         return
     print("What the contracts of the calls reach:\n\n" + tables[0])
-    print("What the statements of the demands' theorems reach beyond that:\n\n" + tables[1], end="")
+    print("What the statements of the demands' and the papers' theorems reach beyond that:\n\n" + tables[1], end="")
 
 
 if __name__ == "__main__":
