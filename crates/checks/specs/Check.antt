@@ -1,4 +1,4 @@
--- Document 01, "The checks, as questions": the questions in the order of their numbers. The order in which a call asks them is that of the call's own definition.
+-- Document 01, "The checks, as questions", and document 02's: the questions in the order of their numbers. The order in which a call asks them is that of the call's own definition.
 use Prim.Native.Nat.{ℕ}
 
 pub data Check : Type 0 where
@@ -6,7 +6,7 @@ pub data Check : Type 0 where
   Length : Check
   -- First three `FCE`?
   Mark : Check
-  -- Version 1?
+  -- Version 1 or 2?
   Version : Check
   -- Entries 1 to 127?
   Entries : Check
@@ -18,7 +18,7 @@ pub data Check : Type 0 where
   SizeCount : Check
   -- Height and width both 1 to 1,000?
   Limits : Check
-  -- Height less and width more than the size before?
+  -- In version 1: height less and width more than the size before?
   Order : Check
   -- At most the 64th?
   Gauges : Check
@@ -32,7 +32,7 @@ pub data Check : Type 0 where
   LevelCount : Check
   -- Each level 1 to 8?
   LevelRange : Check
-  -- Opening height and width both 1 to 64,000?
+  -- Opening height and width both 1 to 65,260?
   Opening : Check
   -- Arena and scratch, each 16,384 32-bit words or more?
   Buffers : Check
@@ -44,6 +44,8 @@ pub data Check : Type 0 where
   LazyList : Check
   -- Is the place from 1 to its length?
   Place : Check
+  -- Rib at most 20?
+  Rib : Check
 
 -- The number that a "no" answers with.
 abbrev pub numberOf : Check → ℕ
@@ -68,3 +70,4 @@ numberOf Output = 18
 numberOf Fits = 19
 numberOf LazyList = 20
 numberOf Place = 21
+numberOf Rib = 22

@@ -1,4 +1,4 @@
--- The limits that document 01's questions name and that more than one place needs.
+-- The limits that the questions of documents 01 and 02 name and that more than one place needs.
 use Prim.Native.Nat.{ℕ}
 
 -- "At most the 64th?": the gauges of a face.
@@ -9,9 +9,13 @@ mostGauges = 64
 abbrev pub mostSizes : ℕ
 mostSizes = 512
 
--- "Opening height and width both 1 to 64,000?"
+-- Document 02, Paper 2: "22 when the rib is above 20".
+abbrev pub mostRib : ℕ
+mostRib = 20
+
+-- "Sums now reach 65,260, and the opening limit rises to it in check 16."
 abbrev pub mostOpening : ℕ
-mostOpening = 64_000
+mostOpening = 65_260
 
 -- "Arena and scratch, each 16,384 32-bit words or more?"
 abbrev pub bufferWords : ℕ

@@ -1,4 +1,4 @@
-// The numbers of document 01's checks. A "no" answers with its check's number, and a taken call with 0.
+// The numbers of the checks of documents 01 and 02. A "no" answers with its check's number, and a taken call with 0.
 ghost use mathlib.Core.Path.{_≡_};
 ghost use Rattle.checks.specs.Answer.{firstNo};
 
@@ -53,6 +53,9 @@ pub const FITS: u32 = 19;
 pub const LAZY_LIST: u32 = 20;
 
 pub const PLACE: u32 = 21;
+
+// Of the rib.
+pub const RIB: u32 = 22;
 
 // Of the numbers of two runs of questions, the second of which is asked where the first answers 0: the first "no" wins.
 pub fn first_no(first: u32, later: u32) -> u32

@@ -7,13 +7,13 @@ use Prim.Native.Nat.{ℕ, _≤_, _<_}
 use lib.Dec.{leb, eqb}
 use lib.ListN.{length, getD}
 use borrow.Author.Tests.{leb-true, eqb-true, le-leb, lt-leb, eq-eqb, ne-eqb, not-true, not-false}
-use Rattle.checks.specs.Check.{Check, LevelCount, LevelRange, Opening, Buffers, Output}
-use Rattle.checks.specs.Limits.{mostOpening}
+use Rattle.checks.specs.Check.{Check, LevelCount, LevelRange, Rib, Opening, Buffers, Output}
+use Rattle.checks.specs.Limits.{mostRib, mostOpening}
 use Rattle.checks.specs.Answer.{taken, number}
 use Rattle.checks.proofs.Answers.{ask-taken, also-taken, also-first, also-later, RefusedBy, ask-refused, also-refused}
 use Rattle.slicing.specs.Layout.{outline}
 use Rattle.sizes.specs.GaugeSizes.{within}
-use Rattle.lent.specs.Questions.{levelCount, levelsInRange, levelRange, levelsLent, openingGiven, buffersLent, outputLent}
+use Rattle.lent.specs.Questions.{levelCount, levelsInRange, levelRange, levelsLent, ribGiven, openingGiven, buffersLent, outputLent}
 use Rattle.lent.proofs.LevelRange.{level-in}
 
 -- 14.
@@ -66,6 +66,20 @@ levels-taken n levels e =
       low = λ i less. level-in levels i less range .0;
       high = λ i less. level-in levels i less range .1;
     }
+
+-- 22.
+module _ (rib : ℕ) where
+  pub rib-wide : mostRib < rib → 22 ≡ number (ribGiven rib)
+  unfolding ribGiven
+  rib-wide wide = simp (lt-leb rib mostRib wide)
+
+  pub rib-fine : rib ≤ mostRib → 0 ≡ number (ribGiven rib)
+  unfolding ribGiven
+  rib-fine fine = simp (le-leb rib mostRib fine)
+
+  pub rib-taken : ribGiven rib ≡ taken tt → rib ≤ mostRib
+  unfolding ribGiven
+  rib-taken e = leb-true rib mostRib (ask-taken (leb rib mostRib) Rib (taken tt) tt e .0)
 
 -- 16.
 module _ (height width : ℕ) where
@@ -127,6 +141,10 @@ module _ (P : Check → Type 0) where
       also-refused P (levelCount n (length levels)) (levelRange levels)
       (ask-refused P (eqb (length levels) n) LevelCount (taken tt) count tt)
       (ask-refused P (levelsInRange levels) LevelRange (taken tt) range tt)
+
+  pub rib-refused : (rib : ℕ) → P Rib → RefusedBy P (ribGiven rib)
+  unfolding ribGiven
+  rib-refused rib wide = ask-refused P (leb rib mostRib) Rib (taken tt) wide tt
 
   pub opening-refused : (height width : ℕ) → P Opening → RefusedBy P (openingGiven (outline height width))
   unfolding openingGiven

@@ -8,3 +8,4 @@ pub use level_checks::levels_number;
 pub use words::buffers_number;
 pub use words::opening_number;
 pub use words::output_number;
+pub use words::rib_number;

@@ -1,10 +1,21 @@
-// Checks 16, 17 and 18.
+// Checks 22, 16, 17 and 18.
 ghost use mathlib.Core.Path.{_≡_};
 ghost use Rattle.checks.specs.Answer.{number};
 ghost use Rattle.slicing.specs.Layout.{outline};
-ghost use Rattle.lent.specs.Questions.{openingGiven, buffersLent, outputLent};
+ghost use Rattle.lent.specs.Questions.{ribGiven, openingGiven, buffersLent, outputLent};
 use checks::limits::OPENING;
+use checks::limits::RIB;
 use sizes::is_within;
+
+// Check 22, of a rib.
+pub fn rib_number(rib: u32) -> u32
+    ensures { λ r. ⌜ r ≡ number (ribGiven rib) ⌝ }
+{
+    if RIB < rib {
+        return checks::RIB;
+    }
+    checks::TAKEN
+}
 
 // Check 16, of an opening.
 pub fn opening_number(height: u32, width: u32) -> u32
