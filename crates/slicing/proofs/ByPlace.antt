@@ -10,7 +10,7 @@ use Rattle.slicing.specs.Item.{Item, size, height, width}
 use Rattle.slicing.specs.Good.{Ordered}
 use Rattle.slicing.specs.Useful.{indexOf}
 
-pub at-index : (s : List Item) (i : ℕ) (d : Item) → i < length s → List·Memᴰ (getD s i d) s
+pub at-index : {A : Type 0} (s : List A) (i : ℕ) (d : A) → i < length s → List·Memᴰ (getD s i d) s
 at-index [] i d h = absurd (omega arith)
 at-index (z ∷ s) zero d h = List·Memᴰ·head refl
 at-index (z ∷ s) (suc i) d h = List·Memᴰ·tail (at-index s i d (omega arith))

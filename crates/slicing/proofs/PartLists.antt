@@ -13,11 +13,11 @@ use Rattle.slicing.specs.Tree.{Tree, gauge, beside, stacked, gaugeCount,
 use Rattle.slicing.specs.Good.{Ordered, Good}
 use Rattle.slicing.specs.Merge.{sum}
 use Rattle.slicing.specs.Shapes.{shapes}
-use Rattle.slicing.specs.Choice.{Choice, extent}
 use Rattle.slicing.specs.Recorded.{Recorded, items, gaugeRecorded, mergeRecorded, swapRecorded, turnRecorded, shapesRecorded, partRecorded}
-use Rattle.slicing.proofs.Counts.{gauges-joined, sizes-joined}
+use Rattle.slicing.proofs.Counts.{sizes-joined}
 use Rattle.slicing.proofs.TurnLaws.{turn-ordered, turn-length}
-use Rattle.slicing.proofs.ShapeLaws.{shapes-ordered, shapes-short, shapes-chosen}
+use Rattle.slicing.proofs.ShapeLaws.{shapes-ordered, shapes-short}
+use Rattle.slicing.proofs.Reach.{shapes-some, shapes-low}
 use Rattle.slicing.proofs.RecordedLaws.{items-turn, items-shapes}
 use Rattle.slicing.proofs.Numbers.{gauge-numbers}
 
@@ -77,55 +77,29 @@ pub part-ordered : (gap r : ℕ) (t : Tree) → Good t → Ordered (items (partR
 part-ordered gap r t h =
     part-either (λ l. Ordered (items l)) gap r t (recorded-ordered gap r t h) (turned-ordered gap r t h)
 
--- How low the items are: 1,000 a gauge at most, since the sizes of a gauge are, and a join adds up no more than those of its parts.
-abbrev Low : ℕ → Item → Type 0
-Low g z = (z .m ≤ 1_000 * g) × (z .p ≤ 1_000 * g)
+-- What holds of each item of the shape list holds of each item of the list with the records, and of each of that turned with m and p exchanged.
+recorded-all : (P : Item → Type 0) (gap r : ℕ) (t : Tree) → ((z : Item) → List·Memᴰ z (shapes gap t) → P z) → (x : Recorded) → List·Memᴰ x (shapesRecorded gap r t) → P (x .item)
+recorded-all P gap r t each x i =
+    each (x .item)
+    (subst (λ (l : List Item). List·Memᴰ (x .item) l) (items-shapes gap r t) (Memᴰ·map (λ (y : Recorded). y .item) i))
 
-extent-low : (t : Tree) → Good t → (c : Choice t) → Low (gaugeCount t) (extent 0 t c)
-extent-low (gauge s) h c = let z = h .limited (c .0) (c .1) in (omega arith, omega arith)
-extent-low (beside a b) h c =
-    let x = extent-low a (h .0) (c .0) in
-    let y = extent-low b (h .1) (c .1) in
-    (omega (arith, gauges-joined a b), omega (arith, gauges-joined a b))
-extent-low (stacked a b) h c =
-    let x = extent-low a (h .0) (c .0) in
-    let y = extent-low b (h .1) (c .1) in
-    (omega (arith, gauges-joined a b), omega (arith, gauges-joined a b))
+-- How low the items are.
+pub recorded-low : (gap r : ℕ) (t : Tree) → gap ≤ 20 → Good t → (x : Recorded) → List·Memᴰ x (shapesRecorded gap r t) → (x .item .m + 20 ≤ 1_020 * gaugeCount t) × (x .item .p + 20 ≤ 1_020 * gaugeCount t)
+recorded-low gap r t few h =
+    recorded-all (λ z. (z .m + 20 ≤ 1_020 * gaugeCount t) × (z .p + 20 ≤ 1_020 * gaugeCount t)) gap r t (shapes-low gap t few h)
 
--- And how high: 1 at least, as the sizes are.
-extent-some : (t : Tree) → Good t → (c : Choice t) → (1 ≤ extent 0 t c .m) × (1 ≤ extent 0 t c .p)
-extent-some (gauge s) h c = let z = h .limited (c .0) (c .1) in (z .high, z .wide)
-extent-some (beside a b) h c =
-    let x = extent-some a (h .0) (c .0) in let y = extent-some b (h .1) (c .1) in (omega arith, omega arith)
-extent-some (stacked a b) h c =
-    let x = extent-some a (h .0) (c .0) in let y = extent-some b (h .1) (c .1) in (omega arith, omega arith)
-
--- What holds of the extent of every choice holds of each item, since each comes from a choice.
-shapes-all : (P : Item → Type 0) (t : Tree) → Good t → ((c : Choice t) → P (extent 0 t c)) → (z : Item) → List·Memᴰ z (shapes 0 t) → P z
-shapes-all P t h each z i = let chosen = shapes-chosen 0 t z h i in subst P (chosen .same) (each (chosen .choice))
-
-recorded-all : (P : Item → Type 0) (r : ℕ) (t : Tree) → Good t → ((c : Choice t) → P (extent 0 t c)) → (x : Recorded) → List·Memᴰ x (shapesRecorded 0 r t) → P (x .item)
-recorded-all P r t h each x i =
-    shapes-all P t h each (x .item)
-    (subst (λ (l : List Item). List·Memᴰ (x .item) l) (items-shapes 0 r t) (Memᴰ·map (λ (y : Recorded). y .item) i))
-
-pub shapes-low : (t : Tree) → Good t → (z : Item) → List·Memᴰ z (shapes 0 t) → (z .m ≤ 1_000 * gaugeCount t) × (z .p ≤ 1_000 * gaugeCount t)
-shapes-low t h = shapes-all (Low (gaugeCount t)) t h (extent-low t h)
-
-pub recorded-low : (r : ℕ) (t : Tree) → Good t → (x : Recorded) → List·Memᴰ x (shapesRecorded 0 r t) → (x .item .m ≤ 1_000 * gaugeCount t) × (x .item .p ≤ 1_000 * gaugeCount t)
-recorded-low r t h = recorded-all (Low (gaugeCount t)) r t h (extent-low t h)
-
-pub recorded-some : (r : ℕ) (t : Tree) → Good t → (x : Recorded) → List·Memᴰ x (shapesRecorded 0 r t) → (1 ≤ x .item .m) × (1 ≤ x .item .p)
-recorded-some r t h = recorded-all (λ z. (1 ≤ z .m) × (1 ≤ z .p)) r t h (extent-some t h)
-
-pub turned-low : (r : ℕ) (t : Tree) → Good t → (x : Recorded) → List·Memᴰ x (turnRecorded (shapesRecorded 0 r t)) → (x .item .m ≤ 1_000 * gaugeCount t) × (x .item .p ≤ 1_000 * gaugeCount t)
-turned-low r t h x i =
-    let low = recorded-low r t h (swapRecorded x) (turn-out-recorded x (shapesRecorded 0 r t) i) in
+pub turned-low : (gap r : ℕ) (t : Tree) → gap ≤ 20 → Good t → (x : Recorded) → List·Memᴰ x (turnRecorded (shapesRecorded gap r t)) → (x .item .m + 20 ≤ 1_020 * gaugeCount t) × (x .item .p + 20 ≤ 1_020 * gaugeCount t)
+turned-low gap r t few h x i =
+    let low = recorded-low gap r t few h (swapRecorded x) (turn-out-recorded x (shapesRecorded gap r t) i) in
     (low .1, low .0)
 
-pub turned-some : (r : ℕ) (t : Tree) → Good t → (x : Recorded) → List·Memᴰ x (turnRecorded (shapesRecorded 0 r t)) → (1 ≤ x .item .m) × (1 ≤ x .item .p)
-turned-some r t h x i =
-    let some = recorded-some r t h (swapRecorded x) (turn-out-recorded x (shapesRecorded 0 r t) i) in
+-- And how high.
+pub recorded-some : (gap r : ℕ) (t : Tree) → Good t → (x : Recorded) → List·Memᴰ x (shapesRecorded gap r t) → (1 ≤ x .item .m) × (1 ≤ x .item .p)
+recorded-some gap r t h = recorded-all (λ z. (1 ≤ z .m) × (1 ≤ z .p)) gap r t (shapes-some gap t h)
+
+pub turned-some : (gap r : ℕ) (t : Tree) → Good t → (x : Recorded) → List·Memᴰ x (turnRecorded (shapesRecorded gap r t)) → (1 ≤ x .item .m) × (1 ≤ x .item .p)
+turned-some gap r t h x i =
+    let some = recorded-some gap r t h (swapRecorded x) (turn-out-recorded x (shapesRecorded gap r t) i) in
     (some .1, some .0)
 
 -- How many they are.

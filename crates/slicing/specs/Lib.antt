@@ -7,6 +7,7 @@ pub mod Shapes
 pub mod Recorded
 pub mod Choice
 pub mod Layout
+pub mod Strips
 pub mod Fit
 pub mod Maxplus
 pub mod UsefulMeans
