@@ -43,7 +43,7 @@ ordered-falling a f (r ∷ rs) o =
     (below-first a (after a f r) (mWord a r) rs (λ z i. o .0 z i .0), ordered-falling a (after a f r) rs (o .1))
 
 -- The result's head was cleared.
-module _ (a b : List ℕ) (ho hn hc : ℕ) (xs ys : List ℕ) (g : Mergeable a ho hn hc xs ys) (c : Cleared a hc b) (floor : mWord b 0 ≡ 0) where
+module _ (gap : ℕ) (a b : List ℕ) (ho hn hc : ℕ) (xs ys : List ℕ) (g : Mergeable gap a ho hn hc xs ys) (c : Cleared a hc b) (floor : mWord b 0 ≡ 0) where
   module _ (h : ℕ) (rs : List ℕ) (apart : h ≡ hc → ⊥) (away : Away hc rs) (l : Linked a h rs) where
     head-same : Same a b h
     head-same = c .outside h apart
@@ -103,9 +103,9 @@ module _ (a b : List ℕ) (ho hn hc : ℕ) (xs ys : List ℕ) (g : Mergeable a h
       }
 
   abbrev whole : List Recorded
-  whole = mergeRecorded 0 (held a ho [] xs) (held a hn [] ys)
+  whole = mergeRecorded gap (held a ho [] xs) (held a hn [] ys)
 
-  abbrev task : Task
+  abbrev task : Task gap
   task = record { arena = b; result = hc; older = xs; newer = ys; all = whole }
 
   begins : Underway task b ho hn (replicate 8 hc)
@@ -129,7 +129,7 @@ module _ (a b : List ℕ) (ho hn hc : ℕ) (xs ys : List ℕ) (g : Mergeable a h
                           older-room = still-room ho xs (g .older-result) (g .result-off-older) (g .older .linked) (g .older-room);
                           newer-room = still-room hn ys (g .newer-result) (g .result-off-newer) (g .newer .linked) (g .newer-room);
                         };
-                    gives = ap₂ (mergeRecorded 0) older-still newer-still;
+                    gives = ap₂ (mergeRecorded gap) older-still newer-still;
                   };
               confined =
                   record {
@@ -158,7 +158,7 @@ module _ (a b : List ℕ) (ho hn hc : ℕ) (xs ys : List ℕ) (g : Mergeable a h
         (trues-frame d e (adjust d hc) (adjust e hc) cs sums-same (all-refl cs (closed-value d e hc cs ends close)))
         ∙ f .gives
 
-    pub merged : Merged a e ho hn hc xs ys
+    pub merged : Merged gap a e ho hn hc xs ys
     merged =
         record {
           length-kept = close .length-kept ∙ f .confined .length-kept ∙ c .long;
@@ -177,13 +177,13 @@ module _ (a b : List ℕ) (ho hn hc : ℕ) (xs ys : List ℕ) (g : Mergeable a h
         }
 
 -- The calls of the function are ready, and their promises give its own.
-module _ (a b : List ℕ) (ho hn : ℕ) (c : Cleared a 0 b) where
-  pub merge-ready : ((xs : List ℕ) × (ys : List ℕ) × Mergeable a ho hn 0 xs ys) → RunsReady b ho hn (replicate 8 0)
+module _ (gap : ℕ) (a b : List ℕ) (ho hn : ℕ) (c : Cleared a 0 b) where
+  pub merge-ready : ((xs : List ℕ) × (ys : List ℕ) × Mergeable gap a ho hn 0 xs ys) → RunsReady gap b ho hn (replicate 8 0)
   merge-ready p =
-      (task a b ho hn 0 (p .0) (p .1) (p .2) c (c .floor), begins a b ho hn 0 (p .0) (p .1) (p .2) c (c .floor))
+      (task gap a b ho hn 0 (p .0) (p .1) (p .2) c (c .floor), begins gap a b ho hn 0 (p .0) (p .1) (p .2) c (c .floor))
 
   -- The sums kept at the start are 0, as the adjusts of all three heads are.
-  pub merge-kept : ((xs : List ℕ) × (ys : List ℕ) × Mergeable a ho hn 0 xs ys) → Kept b ho hn (replicate 8 0) (replicate 9 0) (replicate 9 0) (replicate 9 0)
+  pub merge-kept : ((xs : List ℕ) × (ys : List ℕ) × Mergeable gap a ho hn 0 xs ys) → Kept b ho hn (replicate 8 0) (replicate 9 0) (replicate 9 0) (replicate 9 0)
   merge-kept p =
       record {
         older = still ho (p .0) (p .2 .older-result) (p .2 .older);
@@ -199,15 +199,15 @@ module _ (a b : List ℕ) (ho hn : ℕ) (c : Cleared a 0 b) where
           suffixes-agree (λ k. 0) (adjust b h) (replicate 9 0)
           (λ k low high. c .outside h apart .at (11 + k) (omega arith) ∙ built .still k high) suffixes-none
 
-  module _ (d ends : List ℕ) (runs : RunsDone b d ho hn (replicate 8 0) ends) where
-    finished : (xs ys : List ℕ) (g : Mergeable a ho hn 0 xs ys) → Finished (task a b ho hn 0 xs ys g c (c .floor)) d ho hn ends
-    finished xs ys g = runs (task a b ho hn 0 xs ys g c (c .floor)) (begins a b ho hn 0 xs ys g c (c .floor))
+  module _ (d ends : List ℕ) (runs : RunsDone gap b d ho hn (replicate 8 0) ends) where
+    finished : (xs ys : List ℕ) (g : Mergeable gap a ho hn 0 xs ys) → Finished (task gap a b ho hn 0 xs ys g c (c .floor)) d ho hn ends
+    finished xs ys g = runs (task gap a b ho hn 0 xs ys g c (c .floor)) (begins gap a b ho hn 0 xs ys g c (c .floor))
 
-    pub merge-closes : ((xs : List ℕ) × (ys : List ℕ) × Mergeable a ho hn 0 xs ys) → (h : ℕ) × (cs : List ℕ) × OpenLinked d h cs × EndsOf d h cs ends
+    pub merge-closes : ((xs : List ℕ) × (ys : List ℕ) × Mergeable gap a ho hn 0 xs ys) → (h : ℕ) × (cs : List ℕ) × OpenLinked d h cs × EndsOf d h cs ends
     merge-closes p =
         let f = finished (p .0) (p .1) (p .2) in (0, f .cs, f .lists .result, f .lists .result-ends)
 
-    pub merge-done : (e : List ℕ) → ((h : ℕ) (cs : List ℕ) → OpenLinked d h cs → EndsOf d h cs ends → Closed d e h cs ends) → (xs ys : List ℕ) → Mergeable a ho hn 0 xs ys → Merged a e ho hn 0 xs ys
+    pub merge-done : (e : List ℕ) → ((h : ℕ) (cs : List ℕ) → OpenLinked d h cs → EndsOf d h cs ends → Closed d e h cs ends) → (xs ys : List ℕ) → Mergeable gap a ho hn 0 xs ys → Merged gap a e ho hn 0 xs ys
     merge-done e close xs ys g =
         let f = finished xs ys g in
-        merged a b ho hn 0 xs ys g c (c .floor) d e ends f (close 0 (f .cs) (f .lists .result) (f .lists .result-ends))
+        merged gap a b ho hn 0 xs ys g c (c .floor) d e ends f (close 0 (f .cs) (f .lists .result) (f .lists .result-ends))

@@ -29,13 +29,13 @@ unfolding bothWait
 newer-waits a ho hn x y r e some f t = t ∙ ap (leb 1) f ∙ sym (simp (le-leb 1 (word a ho 3) (omega arith)))
 
 -- What the loop keeps: every merge that was on its way at its start still is.
-pub record Goes (a a' : List ℕ) (ho hn : ℕ) (ends ends' : List ℕ) : Type 0 where
+pub record Goes (gap : ℕ) (a a' : List ℕ) (ho hn : ℕ) (ends ends' : List ℕ) : Type 0 where
   pub length-kept : length a' ≡ length a
   pub ends-kept : length ends' ≡ length ends
-  pub still : (t : Task) → Underway t a ho hn ends → Underway t a' ho hn ends'
+  pub still : (t : Task gap) → Underway t a ho hn ends → Underway t a' ho hn ends'
 
-pub goes-start : (a : List ℕ) (ho hn : ℕ) (ends : List ℕ) → Goes a a ho hn ends ends
-goes-start a ho hn ends = record { length-kept = refl; ends-kept = refl; still = λ t w. w }
+pub goes-start : (gap : ℕ) (a : List ℕ) (ho hn : ℕ) (ends : List ℕ) → Goes gap a a ho hn ends ends
+goes-start gap a ho hn ends = record { length-kept = refl; ends-kept = refl; still = λ t w. w }
 
 -- The records that wait, by the walks along the first link.
 abbrev pub waiting : List ℕ → ℕ → ℕ → ℕ
@@ -74,7 +74,7 @@ unfolding bothWait
 both-true a ho hn x y = simp (le-leb 1 (forward a ho 0) x, le-leb 1 (forward a hn 0) y)
 
 -- A merge on its way where both heads have a first record.
-both-of : (t : Task) (a : List ℕ) (ho hn : ℕ) (ends : List ℕ) → bothWait a ho hn ≡ true → Underway t a ho hn ends → Both t a ho hn ends
+both-of : {gap : ℕ} (t : Task gap) (a : List ℕ) (ho hn : ℕ) (ends : List ℕ) → bothWait a ho hn ≡ true → Underway t a ho hn ends → Both t a ho hn ends
 both-of t a ho hn ends e w =
     let lists = w .merging .runs .waits .lists in
     let some = both-some a ho hn e in
@@ -91,17 +91,17 @@ both-of t a ho hn ends e w =
           (subst (λ (l : List ℕ). Merging t a ho hn l (w .ys) (w .cs) ends) (x .2) (w .merging));
     }
 
-nothing-left : (a : List ℕ) (ho hn hc : ℕ) (xs ys cs ends : List ℕ) → bothWait a ho hn ≡ false → Trio a ho hn hc xs ys cs ends → mergeRecorded 0 (carried a (adjust a ho) xs) (carried a (adjust a hn) ys) ≡ []
+nothing-left : (gap : ℕ) (a : List ℕ) (ho hn hc : ℕ) (xs ys cs ends : List ℕ) → bothWait a ho hn ≡ false → Trio a ho hn hc xs ys cs ends → mergeRecorded gap (carried a (adjust a ho) xs) (carried a (adjust a hn) ys) ≡ []
 unfolding carried trues mergeRecorded
-nothing-left a ho hn hc [] ys cs ends e lists = refl
-nothing-left a ho hn hc (x ∷ xs) [] cs ends e lists = refl
-nothing-left a ho hn hc (x ∷ xs) (y ∷ ys) cs ends e lists =
+nothing-left gap a ho hn hc [] ys cs ends e lists = refl
+nothing-left gap a ho hn hc (x ∷ xs) [] cs ends e lists = refl
+nothing-left gap a ho hn hc (x ∷ xs) (y ∷ ys) cs ends e lists =
     absurd
     (true≢false
     (sym (both-true a ho hn (forward-some a ho x xs (lists .older .linked)) (forward-some a hn y ys (lists .newer .linked))) ∙ e))
 
-module _ (a a' : List ℕ) (ho hn : ℕ) (ends ends' : List ℕ) (more : Bool) (g : Goes a a' ho hn ends ends') (m : more ≡ bothWait a' ho hn) where
-  pub goes-done : more ≡ false → RunsDone a a' ho hn ends ends'
+module _ (gap : ℕ) (a a' : List ℕ) (ho hn : ℕ) (ends ends' : List ℕ) (more : Bool) (g : Goes gap a a' ho hn ends ends') (m : more ≡ bothWait a' ho hn) where
+  pub goes-done : more ≡ false → RunsDone gap a a' ho hn ends ends'
   goes-done over t start =
       let w = g .still t start in
       let lists = w .merging .runs .waits .lists in
@@ -113,20 +113,20 @@ module _ (a a' : List ℕ) (ho hn : ℕ) (ends ends' : List ℕ) (more : Bool) (
         gives =
             sym (append-nil (carried a' (adjust a' (t .result)) (w .cs)))
             ∙ ap (λ (l : List Recorded). carried a' (adjust a' (t .result)) (w .cs) ++ l)
-            (sym (nothing-left a' ho hn (t .result) (w .xs) (w .ys) (w .cs) ends' (sym m ∙ over) lists))
+            (sym (nothing-left gap a' ho hn (t .result) (w .xs) (w .ys) (w .cs) ends' (sym m ∙ over) lists))
             ∙ w .merging .runs .gives;
         confined = w .merging .confined;
       }
 
   module _ (more-is : more ≡ true) where
-    abbrev both : (t : Task) → Underway t a ho hn ends → Both t a' ho hn ends'
+    abbrev both : (t : Task gap) → Underway t a ho hn ends → Both t a' ho hn ends'
     both t start = both-of t a' ho hn ends' (sym m ∙ more-is) (g .still t start)
 
-    pub goes-ready : RunsReady a ho hn ends → StepReady a' ho hn ends'
+    pub goes-ready : RunsReady gap a ho hn ends → StepReady gap a' ho hn ends'
     goes-ready p = (p .0, both (p .0) (p .1))
 
-    module _ (b ends'' : List ℕ) (d : StepDone a' b ho hn ends' ends'') where
-      pub goes-turn : length b ≡ length a' → length ends'' ≡ length ends' → Goes a b ho hn ends ends''
+    module _ (b ends'' : List ℕ) (d : StepDone gap a' b ho hn ends' ends'') where
+      pub goes-turn : length b ≡ length a' → length ends'' ≡ length ends' → Goes gap a b ho hn ends ends''
       goes-turn same-length same-ends =
           record {
             length-kept = same-length ∙ g .length-kept;
@@ -134,7 +134,7 @@ module _ (a a' : List ℕ) (ho hn : ℕ) (ends ends' : List ℕ) (more : Bool) (
             still = λ t start. d t (both t start) .still;
           }
 
-      pub goes-less : RunsReady a ho hn ends → waiting b ho hn < waiting a' ho hn
+      pub goes-less : RunsReady gap a ho hn ends → waiting b ho hn < waiting a' ho hn
       goes-less p =
           let w = both (p .0) (p .1) in
           let f = d (p .0) w in

@@ -6,13 +6,13 @@ use crate::runs::merge_runs;
 use building::empty::clear_head;
 use splicing::close::close;
 
-// Makes the list of record 0 the merge of the lists of two heads: whole runs of records change lists at once, and an
-// adjust raises all that it covers. The sums of the heads and of the ends are kept beside the arena: 0 at the start, as
-// the adjusts of a list that was made are at its head. Record 0 is cleared first, so that its m ends every search. The two
-// heads are used up.
-pub fn merge(arena: &mut [u32], older: usize, newer: usize)
-    requires { ⌜ ((xs : List ℕ) × (ys : List ℕ) × Mergeable (now arena) older newer 0 xs ys) ⌝ }
-    ensures { λ _. ⌜ ((xs ys : List ℕ) → Mergeable (now (arena .entry)) older newer 0 xs ys → Merged (now (arena .entry)) (now (arena .exit)) older newer 0 xs ys) ⌝ }
+// Makes the list of record 0 the merge of the lists of two heads, with a rib in each sum: whole runs of records change
+// lists at once, and an adjust raises all that it covers. The sums of the heads and of the ends are kept beside the
+// arena: 0 at the start, as the adjusts of a list that was made are at its head. Record 0 is cleared first, so that its m
+// ends every search. The two heads are used up.
+pub fn merge(arena: &mut [u32], older: usize, newer: usize, rib: u32)
+    requires { ⌜ ((xs : List ℕ) × (ys : List ℕ) × Mergeable rib (now arena) older newer 0 xs ys) ⌝ }
+    ensures { λ _. ⌜ ((xs ys : List ℕ) → Mergeable rib (now (arena .entry)) older newer 0 xs ys → Merged rib (now (arena .entry)) (now (arena .exit)) older newer 0 xs ys) ⌝ }
 {
     clear_head(arena, 0);
     let mut ends = [0usize; 8];
@@ -23,6 +23,7 @@ pub fn merge(arena: &mut [u32], older: usize, newer: usize)
         arena,
         older,
         newer,
+        rib,
         &mut ends,
         &mut olders,
         &mut newers,

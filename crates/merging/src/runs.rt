@@ -26,23 +26,24 @@ fn step(
     arena: &mut [u32],
     older: usize,
     newer: usize,
+    rib: u32,
     ends: &mut [usize],
     olders: &mut [u32],
     newers: &mut [u32],
     lasts: &mut [u32],
 )
-    requires { ⌜ StepReady (now arena) older newer (now ends) ⌝ }
+    requires { ⌜ StepReady rib (now arena) older newer (now ends) ⌝ }
     requires { ⌜ Kept (now arena) older newer (now ends) (now olders) (now newers) (now lasts) ⌝ }
-    ensures { λ _. ⌜ StepDone (now (arena .entry)) (now (arena .exit)) older newer (now (ends .entry)) (now (ends .exit)) ⌝ }
+    ensures { λ _. ⌜ StepDone rib (now (arena .entry)) (now (arena .exit)) older newer (now (ends .entry)) (now (ends .exit)) ⌝ }
     ensures { λ _. ⌜ Kept (now (arena .exit)) older newer (now (ends .exit)) (now (olders .exit)) (now (newers .exit)) (now (lasts .exit)) ⌝ }
 {
     let r = wide(get(arena, older, FORWARD));
     let s = wide(get(arena, newer, FORWARD));
     let top = get(arena, r, M);
     if get(arena, s, M) <= top {
-        older_step(arena, older, newer, ends, olders, newers, lasts);
+        older_step(arena, older, newer, rib, ends, olders, newers, lasts);
     } else {
-        newer_step(arena, older, newer, ends, olders, newers, lasts);
+        newer_step(arena, older, newer, rib, ends, olders, newers, lasts);
     }
 }
 
@@ -52,19 +53,20 @@ pub fn merge_runs(
     arena: &mut [u32],
     older: usize,
     newer: usize,
+    rib: u32,
     ends: &mut [usize],
     olders: &mut [u32],
     newers: &mut [u32],
     lasts: &mut [u32],
 )
-    requires { ⌜ RunsReady (now arena) older newer (now ends) ⌝ }
+    requires { ⌜ RunsReady rib (now arena) older newer (now ends) ⌝ }
     requires { ⌜ Kept (now arena) older newer (now ends) (now olders) (now newers) (now lasts) ⌝ }
-    ensures { λ _. ⌜ RunsDone (now (arena .entry)) (now (arena .exit)) older newer (now (ends .entry)) (now (ends .exit)) ⌝ }
+    ensures { λ _. ⌜ RunsDone rib (now (arena .entry)) (now (arena .exit)) older newer (now (ends .entry)) (now (ends .exit)) ⌝ }
     ensures { λ _. ⌜ Kept (now (arena .exit)) older newer (now (ends .exit)) (now (olders .exit)) (now (newers .exit)) (now (lasts .exit)) ⌝ }
 {
     let mut more = both_wait(arena, older, newer);
     while more {
-        step(arena, older, newer, ends, olders, newers, lasts);
+        step(arena, older, newer, rib, ends, olders, newers, lasts);
         more = both_wait(arena, older, newer);
     }
 }

@@ -16,14 +16,14 @@ use Rattle.moving.specs.inside.Advance.{Movable, MovedFront, RunMoved}
 use Rattle.stepping.specs.inside.Trio.{Kept}
 use Rattle.stepping.specs.inside.Running.{Waiting, Task, Further, Both, waitingIn, NewerFirst, NewerReady, NewerDone}
 use Rattle.stepping.proofs.TrioLaws.{trio-swap, trio-movable}
-use Rattle.stepping.proofs.Steps.{newer-moves}
+use Rattle.stepping.proofs.Steps.{firsts-fit, newer-moves}
 use Rattle.stepping.proofs.Confined.{confined-swap, confined-moved}
 
-module _ (a : List ℕ) (ho hn v : ℕ) (ends : List ℕ) (p : NewerReady a ho hn ends) (e : v ≡ word a ho 3) where
+module _ (gap : ℕ) (a : List ℕ) (ho hn v : ℕ) (ends : List ℕ) (p : NewerReady gap a ho hn ends) (e : v ≡ word a ho 3) where
   abbrev now : Both (p .0) a ho hn ends
   now = p .1 .both
 
-  abbrev waits : Waiting a ho hn (p .0 .result) (now .r ∷ now .xs) (now .s ∷ now .ys) (now .cs) ends
+  abbrev waits : Waiting gap a ho hn (p .0 .result) (now .r ∷ now .xs) (now .s ∷ now .ys) (now .cs) ends
   waits = now .merging .runs .waits
 
   same : v ≡ now .r
@@ -40,6 +40,12 @@ module _ (a : List ℕ) (ho hn v : ℕ) (ends : List ℕ) (p : NewerReady a ho h
 
   pub newer-room : (key : ℕ) → key ≡ word a v 1 → key + 1 < 2 ^ 32
   newer-room key k = subst (λ (x : ℕ). x + 1 < 2 ^ 32) (sym (k ∙ ap (λ (x : ℕ). word a x 1) same)) (waits .older-room .0 .small)
+
+  pub newer-fits : (q : ℕ) → q ≡ pUnder a (adjust a ho) v → q + gap < 2 ^ 32
+  newer-fits q is =
+      let sum = firsts-fit gap a ho hn (p .0 .result) (now .r) (now .s) (now .xs) (now .ys) (now .cs) ends waits in
+      let same-q : q ≡ pUnder a (adjust a ho) (now .r) = is ∙ ap (pUnder a (adjust a ho)) same in
+      omega arith
 
   pub newer-movable : (key : ℕ) → key ≡ word a v 1 → Movable a hn (p .0 .result) (key + 1) (now .cs) (now .s) (now .ys) ends
   newer-movable key k =
@@ -69,7 +75,7 @@ module _ (a : List ℕ) (ho hn v : ℕ) (ends : List ℕ) (p : NewerReady a ho h
         }
 
 -- The step over plain values: the run of the newer list was moved, in the words of the laws.
-module _ (t : Task) (a b : List ℕ) (ho hn : ℕ) (ends ends' : List ℕ) (w : NewerFirst t a ho hn ends) where
+module _ {gap : ℕ} (t : Task gap) (a b : List ℕ) (ho hn : ℕ) (ends ends' : List ℕ) (w : NewerFirst t a ho hn ends) where
   abbrev at : Both t a ho hn ends
   at = w .both
 
@@ -78,7 +84,7 @@ module _ (t : Task) (a b : List ℕ) (ho hn : ℕ) (ends ends' : List ℕ) (w : 
 
   abbrev Moves : Type 0
   Moves =
-      MovedFront a b hn (t .result) key (pUnder a (adjust a ho) (at .r)) (at .cs) (at .s ∷ at .ys) ends'
+      MovedFront a b hn (t .result) key (pUnder a (adjust a ho) (at .r) + gap) (at .cs) (at .s ∷ at .ys) ends'
 
   newer-further : Moves → Further t b ho hn ends' (waitingIn at)
   newer-further d =
@@ -90,22 +96,22 @@ module _ (t : Task) (a b : List ℕ) (ho hn : ℕ) (ends ends' : List ℕ) (w : 
               cs = at .cs ++ front a key (at .s ∷ at .ys);
               merging =
                   record {
-                    runs = newer-moves a b ho hn (t .result) (at .r) (at .s) (at .xs) (at .ys) (at .cs) ends ends' (t .all) (at .merging .runs) d;
+                    runs = newer-moves gap a b ho hn (t .result) (at .r) (at .s) (at .xs) (at .ys) (at .cs) ends ends' (t .all) (at .merging .runs) d;
                     confined =
                         confined-swap (t .arena) b hn ho (t .result) (t .newer) (t .older) (behind a key (at .s ∷ at .ys)) (at .r ∷ at .xs) (at .cs ++ front a key (at .s ∷ at .ys))
-                        (confined-moved (t .arena) a b hn ho (t .result) key (pUnder a (adjust a ho) (at .r)) (at .s) (t .newer) (t .older) (at .ys) (at .r ∷ at .xs) (at .cs) ends'
+                        (confined-moved (t .arena) a b hn ho (t .result) key (pUnder a (adjust a ho) (at .r) + gap) (at .s) (t .newer) (t .older) (at .ys) (at .r ∷ at .xs) (at .cs) ends'
                         (confined-swap (t .arena) a ho hn (t .result) (t .older) (t .newer) (at .r ∷ at .xs) (at .s ∷ at .ys) (at .cs) (at .merging .confined)) d);
                   };
             };
         fewer = let f = behind-shorter a key (at .s) (at .ys) (let less = w .order in omega arith) in omega arith;
       }
 
-pub newer-done : (a b : List ℕ) (ho hn v key q : ℕ) (ends ends' : List ℕ) → v ≡ word a ho 3 → key ≡ word a v 1 → q ≡ pUnder a (adjust a ho) v
-    → RunMoved a b hn (key + 1) q ends ends' → NewerDone a b ho hn ends ends'
-newer-done a b ho hn v key q ends ends' e k f move t w =
+pub newer-done : (gap : ℕ) (a b : List ℕ) (ho hn v key q : ℕ) (ends ends' : List ℕ) → v ≡ word a ho 3 → key ≡ word a v 1 → q ≡ pUnder a (adjust a ho) v + gap
+    → RunMoved a b hn (key + 1) q ends ends' → NewerDone gap a b ho hn ends ends'
+newer-done gap a b ho hn v key q ends ends' e k f move t w =
     let at = w .both in
     let same = same-first a ho v (at .r) (at .xs) (at .merging .runs .waits .lists .older .linked) e in
-    let d = move (t .result) (at .cs) (at .s) (at .ys) (newer-movable a ho hn v ends (t, w) e key k) in
+    let d = move (t .result) (at .cs) (at .s) (at .ys) (newer-movable gap a ho hn v ends (t, w) e key k) in
     newer-further t a b ho hn ends ends' w
-    (subst (λ (x : ℕ). MovedFront a b hn (t .result) (mWord a (at .r) + 1) x (at .cs) (at .s ∷ at .ys) ends') (f ∙ ap (pUnder a (adjust a ho)) same)
+    (subst (λ (x : ℕ). MovedFront a b hn (t .result) (mWord a (at .r) + 1) x (at .cs) (at .s ∷ at .ys) ends') (f ∙ ap (λ (x : ℕ). pUnder a (adjust a ho) x + gap) same)
     (subst (λ (x : ℕ). MovedFront a b hn (t .result) (x + 1) q (at .cs) (at .s ∷ at .ys) ends') (k ∙ ap (λ (x : ℕ). word a x 1) same) d))

@@ -2,7 +2,7 @@
 -- The first forward of the newer list's head is its first record, and the run that is moved is what `older-stays` and `older-drops` ask.
 use mathlib.Core.Path.{_≡_, sym, ap, subst, _∙_}
 use mathlib.Core.List.{List, _∷_, _++_}
-use Prim.Native.Nat.{ℕ, _+_, _≤_, _<_}
+use Prim.Native.Nat.{ℕ, _+_, _^_, _≤_, _<_}
 use native.Mathlib.Omega.{arith}
 use lib.ListN.{length, getD}
 use Rattle.arena.specs.Arena.{word, level, mWord, adjust}
@@ -23,14 +23,14 @@ use Rattle.moving.specs.inside.Advance.{Movable, MovedFront, RunMoved}
 use Rattle.stepping.specs.inside.Trio.{Kept}
 use Rattle.stepping.specs.inside.Running.{Waiting, Confined, Task, Further, Both, waitingIn, OlderFirst, OlderReady, OlderDone}
 use Rattle.stepping.proofs.TrioLaws.{trio-movable, trio-moved}
-use Rattle.stepping.proofs.Steps.{older-stays, older-drops}
+use Rattle.stepping.proofs.Steps.{firsts-fit, older-stays, older-drops}
 use Rattle.stepping.proofs.Confined.{confined-moved, confined-dropped}
 
-module _ (a : List ℕ) (ho hn v : ℕ) (ends : List ℕ) (p : OlderReady a ho hn ends) (e : v ≡ word a hn 3) where
+module _ (gap : ℕ) (a : List ℕ) (ho hn v : ℕ) (ends : List ℕ) (p : OlderReady gap a ho hn ends) (e : v ≡ word a hn 3) where
   abbrev now : Both (p .0) a ho hn ends
   now = p .1 .both
 
-  abbrev waits : Waiting a ho hn (p .0 .result) (now .r ∷ now .xs) (now .s ∷ now .ys) (now .cs) ends
+  abbrev waits : Waiting gap a ho hn (p .0 .result) (now .r ∷ now .xs) (now .s ∷ now .ys) (now .cs) ends
   waits = now .merging .runs .waits
 
   same : v ≡ now .s
@@ -48,6 +48,12 @@ module _ (a : List ℕ) (ho hn v : ℕ) (ends : List ℕ) (p : OlderReady a ho h
   pub older-summable : (olders newers lasts : List ℕ) → Kept a ho hn ends olders newers lasts → Summable a v newers
   older-summable olders newers lasts kept = record { has = older-has; low = older-some; high = older-low; nine = kept .newer .nine }
 
+  pub older-fits : (q : ℕ) → q ≡ pUnder a (adjust a hn) v → q + gap < 2 ^ 32
+  older-fits q is =
+      let sum = firsts-fit gap a ho hn (p .0 .result) (now .r) (now .s) (now .xs) (now .ys) (now .cs) ends waits in
+      let same-q : q ≡ pUnder a (adjust a hn) (now .s) = is ∙ ap (pUnder a (adjust a hn)) same in
+      omega arith
+
   module _ (key : ℕ) (k : key ≡ word a v 1) where
     first : key ≡ mWord a (now .s)
     first = k ∙ ap (λ (x : ℕ). word a x 1) same
@@ -60,10 +66,10 @@ module _ (a : List ℕ) (ho hn v : ℕ) (ends : List ℕ) (p : OlderReady a ho h
         trio-movable a ho hn (p .0 .result) key (now .r) (now .xs) (now .s ∷ now .ys) (now .cs) ends (waits .lists) (omega arith) (omega arith)
 
     -- After the run was moved, in the words of the laws.
-    module _ (b : List ℕ) (q : ℕ) (ends' : List ℕ) (f : q ≡ pUnder a (adjust a hn) v) (move : RunMoved a b ho key q ends ends') where
-      pub older-moved : MovedFront a b ho (p .0 .result) (mWord a (now .s)) (pUnder a (adjust a hn) (now .s)) (now .cs) (now .r ∷ now .xs) ends'
+    module _ (b : List ℕ) (q : ℕ) (ends' : List ℕ) (f : q ≡ pUnder a (adjust a hn) v + gap) (move : RunMoved a b ho key q ends ends') where
+      pub older-moved : MovedFront a b ho (p .0 .result) (mWord a (now .s)) (pUnder a (adjust a hn) (now .s) + gap) (now .cs) (now .r ∷ now .xs) ends'
       older-moved =
-          subst (λ (x : ℕ). MovedFront a b ho (p .0 .result) (mWord a (now .s)) x (now .cs) (now .r ∷ now .xs) ends') (f ∙ ap (pUnder a (adjust a hn)) same)
+          subst (λ (x : ℕ). MovedFront a b ho (p .0 .result) (mWord a (now .s)) x (now .cs) (now .r ∷ now .xs) ends') (f ∙ ap (λ (x : ℕ). pUnder a (adjust a hn) x + gap) same)
           (subst (λ (x : ℕ). MovedFront a b ho (p .0 .result) x q (now .cs) (now .r ∷ now .xs) ends') first (move (p .0 .result) (now .cs) (now .r) (now .xs) older-movable))
 
       abbrev result : List ℕ
@@ -79,7 +85,7 @@ module _ (a : List ℕ) (ho hn v : ℕ) (ends : List ℕ) (p : OlderReady a ho h
 
       pub newer-linked : Linked b hn (now .s ∷ now .ys)
       newer-linked =
-          trio-moved a b ho hn (p .0 .result) (mWord a (now .s)) (pUnder a (adjust a hn) (now .s)) (now .r) (now .xs) (now .s ∷ now .ys) (now .cs) ends ends' (waits .lists) older-moved .newer .linked
+          trio-moved a b ho hn (p .0 .result) (mWord a (now .s)) (pUnder a (adjust a hn) (now .s) + gap) (now .r) (now .xs) (now .s ∷ now .ys) (now .cs) ends ends' (waits .lists) older-moved .newer .linked
 
       -- The sums kept, after the run was moved.
       module _ (olders newers lasts olders' lasts' : List ℕ) (kept : Kept a ho hn ends olders newers lasts) (cached : Cached b ho ends' olders' lasts') where
@@ -127,7 +133,7 @@ module _ (a : List ℕ) (ho hn v : ℕ) (ends : List ℕ) (p : OlderReady a ho h
             }
 
 -- The step over plain values: the run of the older list was moved, in the words of the laws.
-module _ (t : Task) (a b : List ℕ) (ho hn : ℕ) (ends ends' : List ℕ) (w : OlderFirst t a ho hn ends) where
+module _ {gap : ℕ} (t : Task gap) (a b : List ℕ) (ho hn : ℕ) (ends ends' : List ℕ) (w : OlderFirst t a ho hn ends) where
   abbrev at : Both t a ho hn ends
   at = w .both
 
@@ -141,7 +147,7 @@ module _ (t : Task) (a b : List ℕ) (ho hn : ℕ) (ends ends' : List ℕ) (w : 
   back = behind a m (at .r ∷ at .xs)
 
   abbrev Moves : Type 0
-  Moves = MovedFront a b ho (t .result) m (pUnder a (adjust a hn) (at .s)) (at .cs) (at .r ∷ at .xs) ends'
+  Moves = MovedFront a b ho (t .result) m (pUnder a (adjust a hn) (at .s) + gap) (at .cs) (at .r ∷ at .xs) ends'
 
   abbrev end : ℕ
   end = mWord b (lastWith b 0 (t .result) (at .cs ++ fr))
@@ -152,7 +158,7 @@ module _ (t : Task) (a b : List ℕ) (ho hn : ℕ) (ends ends' : List ℕ) (w : 
   module _ (d : Moves) where
     confined : Confined (t .arena) b ho hn (t .result) (t .older) (t .newer) back (at .s ∷ at .ys) (at .cs ++ fr)
     confined =
-        confined-moved (t .arena) a b ho hn (t .result) m (pUnder a (adjust a hn) (at .s)) (at .r) (t .older) (t .newer) (at .xs) (at .s ∷ at .ys) (at .cs) ends'
+        confined-moved (t .arena) a b ho hn (t .result) m (pUnder a (adjust a hn) (at .s) + gap) (at .r) (t .older) (t .newer) (at .xs) (at .s ∷ at .ys) (at .cs) ends'
         (at .merging .confined) d
 
     further-stays : (end ≡ m → ⊥) → Further t b ho hn ends' (waitingIn at)
@@ -165,7 +171,7 @@ module _ (t : Task) (a b : List ℕ) (ho hn : ℕ) (ends ends' : List ℕ) (w : 
                 cs = at .cs ++ fr;
                 merging =
                     record {
-                      runs = older-stays a b ho hn (t .result) (at .r) (at .s) (at .xs) (at .ys) (at .cs) ends ends' (t .all) (at .merging .runs) (w .order) d other;
+                      runs = older-stays gap a b ho hn (t .result) (at .r) (at .s) (at .xs) (at .ys) (at .cs) ends ends' (t .all) (at .merging .runs) (w .order) d other;
                       confined = confined;
                     };
               };
@@ -182,7 +188,7 @@ module _ (t : Task) (a b : List ℕ) (ho hn : ℕ) (ends ends' : List ℕ) (w : 
                 cs = at .cs ++ fr;
                 merging =
                     record {
-                      runs = older-drops a b ho hn (t .result) (at .r) (at .s) (at .xs) (at .ys) (at .cs) ends ends' (t .all) (at .merging .runs) (w .order) d c equal f;
+                      runs = older-drops gap a b ho hn (t .result) (at .r) (at .s) (at .xs) (at .ys) (at .cs) ends ends' (t .all) (at .merging .runs) (w .order) d c equal f;
                       confined =
                           confined-dropped (t .arena) b c ho hn (t .result) (at .s) (t .older) (t .newer) back (at .ys) (at .cs ++ fr) confined
                           (at .merging .runs .waits .lists .newer-result) f;
@@ -192,19 +198,19 @@ module _ (t : Task) (a b : List ℕ) (ho hn : ℕ) (ends ends' : List ℕ) (w : 
         }
 
 -- The function: what it read and what its calls promise.
-module _ (a b : List ℕ) (ho hn v key q : ℕ) (ends ends' : List ℕ) (e : v ≡ word a hn 3) (k : key ≡ word a v 1) (f : q ≡ pUnder a (adjust a hn) v) (move : RunMoved a b ho key q ends ends') (c newers newers' : List ℕ) (t : DroppedTied b c hn v (getD ends' 0 0) key newers newers') where
+module _ (gap : ℕ) (a b : List ℕ) (ho hn v key q : ℕ) (ends ends' : List ℕ) (e : v ≡ word a hn 3) (k : key ≡ word a v 1) (f : q ≡ pUnder a (adjust a hn) v + gap) (move : RunMoved a b ho key q ends ends') (c newers newers' : List ℕ) (t : DroppedTied b c hn v (getD ends' 0 0) key newers newers') where
   abbrev Tie : Type 0
   Tie = mWord b (getD ends' 0 0) ≡ key
 
-  module _ (task : Task) (w : OlderFirst task a ho hn ends) where
+  module _ (task : Task gap) (w : OlderFirst task a ho hn ends) where
     moved : Moves task a b ho hn ends ends' w
-    moved = older-moved a ho hn v ends (task, w) e key k b q ends' f move
+    moved = older-moved gap a ho hn v ends (task, w) e key k b q ends' f move
 
     last-is : mWord b (getD ends' 0 0) ≡ end task a b ho hn ends ends' w
-    last-is = ap (λ (x : ℕ). word b x 1) (end-is a ho hn v ends (task, w) e key k b q ends' f move)
+    last-is = ap (λ (x : ℕ). word b x 1) (end-is gap a ho hn v ends (task, w) e key k b q ends' f move)
 
     key-is : key ≡ mWord a (w .both .s)
-    key-is = first a ho hn v ends (task, w) e key k
+    key-is = first gap a ho hn v ends (task, w) e key k
 
     stays : (Tie → ⊥) → Further task b ho hn ends' (waitingIn (w .both))
     stays other =
@@ -213,21 +219,21 @@ module _ (a b : List ℕ) (ho hn v key q : ℕ) (ends ends' : List ℕ) (e : v �
     drops : Tie → Further task c ho hn ends' (waitingIn (w .both))
     drops same =
         further-drops task a b ho hn ends ends' w moved c (sym last-is ∙ same ∙ key-is)
-        (t .drops same (w .both .s) (w .both .ys) (newer-linked a ho hn v ends (task, w) e key k b q ends' f move))
+        (t .drops same (w .both .s) (w .both .ys) (newer-linked gap a ho hn v ends (task, w) e key k b q ends' f move))
 
-  pub older-done : OlderDone a c ho hn ends ends'
+  pub older-done : OlderDone gap a c ho hn ends ends'
   older-done task w =
       eq-or-ne (mWord b (getD ends' 0 0)) key (drops task w)
       (λ other.
       subst (λ (x : List ℕ). Further task x ho hn ends' (waitingIn (w .both))) (sym (t .stays other)) (stays task w other))
 
-  pub tied-kept : (p : OlderReady a ho hn ends) (olders lasts olders' lasts' : List ℕ) → Kept a ho hn ends olders newers lasts → Cached b ho ends' olders' lasts' → Kept c ho hn ends' olders' newers' lasts'
+  pub tied-kept : (p : OlderReady gap a ho hn ends) (olders lasts olders' lasts' : List ℕ) → Kept a ho hn ends olders newers lasts → Cached b ho ends' olders' lasts' → Kept c ho hn ends' olders' newers' lasts'
   tied-kept p olders lasts olders' lasts' kept cached =
       eq-or-ne (mWord b (getD ends' 0 0)) key
       (λ same.
-      dropped-kept a ho hn v ends p e key k b q ends' f move olders newers lasts olders' lasts' kept cached c newers' (t .drops same)
+      dropped-kept gap a ho hn v ends p e key k b q ends' f move olders newers lasts olders' lasts' kept cached c newers' (t .drops same)
       (t .passes same))
       (λ other.
       subst (λ (x : List ℕ). Kept x ho hn ends' olders' newers' lasts') (sym (t .stays other))
       (subst (λ (y : List ℕ). Kept b ho hn ends' olders' y lasts') (sym (t .sums-stay other))
-      (older-kept a ho hn v ends p e key k b q ends' f move olders newers lasts olders' lasts' kept cached)))
+      (older-kept gap a ho hn v ends p e key k b q ends' f move olders newers lasts olders' lasts' kept cached)))

@@ -1,9 +1,9 @@
--- A step of the merge leaves what the merge is to give as it was: a run of one list goes to the result with the other list's first p, and the rest waits.
+-- A step of the merge leaves what the merge is to give as it was: a run of one list goes to the result with the other list's first p and the gap, and the rest waits.
 -- The merge of the definitions makes the same run at once, since every item of it has a larger m than what waits, or the same as the other list's first.
 use mathlib.Core.Path.{_≡_, refl, sym, ap, ap₂, subst, _∙_}
 use mathlib.Core.List.{List, [], _∷_, _++_, append-assoc, map-append, List·Memᴰ, List·Memᴰ·head, List·Memᴰ·tail, List·Memᴰ·not-nil, List·Memᴰ·cases-cons, Memᴰ·append-left, Memᴰ·append-right}
 use mathlib.Core.Logic.{⊎-elim}
-use Prim.Native.Nat.{ℕ, _+_, _≤_, _<_}
+use Prim.Native.Nat.{ℕ, _+_, _^_, _≤_, _<_}
 use native.Mathlib.Omega.{arith}
 use mathlib.Core.Bool.{cond}
 use lib.Dec.{eqb}
@@ -66,8 +66,8 @@ all-kept a b rs e h =
     record { some = omega arith; small = omega arith })
     h
 
-pub waiting-swap : (a : List ℕ) (ho hn hc : ℕ) (xs ys cs ends : List ℕ) → Waiting a ho hn hc xs ys cs ends → Waiting a hn ho hc ys xs cs ends
-waiting-swap a ho hn hc xs ys cs ends w =
+pub waiting-swap : (gap : ℕ) (a : List ℕ) (ho hn hc : ℕ) (xs ys cs ends : List ℕ) → Waiting gap a ho hn hc xs ys cs ends → Waiting gap a hn ho hc ys xs cs ends
+waiting-swap gap a ho hn hc xs ys cs ends w =
     record {
       lists = trio-swap a ho hn hc xs ys cs ends (w .lists);
       older-order = w .newer-order;
@@ -77,8 +77,20 @@ waiting-swap a ho hn hc xs ys cs ends w =
       newer-room = w .older-room;
     }
 
+-- The first item of a list.
+abbrev firstItem : List ℕ → (ℕ → ℕ) → ℕ → Recorded
+firstItem a f r = record { number = r; item = size (mWord a r) (pUnder a f r) }
+
+carried-first : (a : List ℕ) (f : ℕ → ℕ) (r : ℕ) (rs : List ℕ) → List·Memᴰ (firstItem a f r) (carried a f (r ∷ rs))
+carried-first a f r rs = subst (λ (l : List Recorded). List·Memᴰ (firstItem a f r) l) (sym (carried-cons a f r rs)) (List·Memᴰ·head refl)
+
+-- The sum of the p of the two first items and the gap fits.
+pub firsts-fit : (gap : ℕ) (a : List ℕ) (ho hn hc r s : ℕ) (xs ys cs ends : List ℕ) → Waiting gap a ho hn hc (r ∷ xs) (s ∷ ys) cs ends → pUnder a (adjust a ho) r + gap + pUnder a (adjust a hn) s < 2 ^ 32
+firsts-fit gap a ho hn hc r s xs ys cs ends w =
+    w .small (firstItem a (adjust a ho) r) (firstItem a (adjust a hn) s) (carried-first a (adjust a ho) r xs) (carried-first a (adjust a hn) s ys)
+
 -- What waits after a run was moved.
-module _ (a b : List ℕ) (ho hn hc key q r : ℕ) (xs ys cs ends ends' : List ℕ) (w : Waiting a ho hn hc (r ∷ xs) ys cs ends) (d : MovedFront a b ho hc key q cs (r ∷ xs) ends') where
+module _ (gap : ℕ) (a b : List ℕ) (ho hn hc key q r : ℕ) (xs ys cs ends ends' : List ℕ) (w : Waiting gap a ho hn hc (r ∷ xs) ys cs ends) (d : MovedFront a b ho hc key q cs (r ∷ xs) ends') where
   pub older-parts : carried a (adjust a ho) (r ∷ xs) ≡ carried a (adjust a ho) (front a key (r ∷ xs)) ++ carried a (leaving a (adjust a ho) (front a key (r ∷ xs))) (behind a key (r ∷ xs))
   older-parts = ap (carried a (adjust a ho)) (front-behind a key (r ∷ xs)) ∙ carried-append a (adjust a ho) (front a key (r ∷ xs)) (behind a key (r ∷ xs))
 
@@ -102,7 +114,7 @@ module _ (a b : List ℕ) (ho hn hc key q r : ℕ) (xs ys cs ends ends' : List �
       all-right (Roomy a) (front a key (r ∷ xs)) (behind a key (r ∷ xs))
       (subst (All (Roomy a)) (front-behind a key (r ∷ xs)) (w .older-room))
 
-  pub waiting-moved : Waiting b ho hn hc (behind a key (r ∷ xs)) ys (cs ++ front a key (r ∷ xs)) ends'
+  pub waiting-moved : Waiting gap b ho hn hc (behind a key (r ∷ xs)) ys (cs ++ front a key (r ∷ xs)) ends'
   waiting-moved =
       record {
         lists = trio-moved a b ho hn hc key q r xs ys cs ends ends' (w .lists) d;
@@ -117,7 +129,7 @@ module _ (a b : List ℕ) (ho hn hc key q r : ℕ) (xs ys cs ends ends' : List �
       }
 
 -- What waits after the newer list's first record has left.
-module _ (a b : List ℕ) (ho hn hc y : ℕ) (xs ys cs ends : List ℕ) (w : Waiting a ho hn hc xs (y ∷ ys) cs ends) (d : Dropped a b hn y ys) where
+module _ (gap : ℕ) (a b : List ℕ) (ho hn hc y : ℕ) (xs ys cs ends : List ℕ) (w : Waiting gap a ho hn hc xs (y ∷ ys) cs ends) (d : Dropped a b hn y ys) where
   abbrev first : Recorded
   first = record { number = y; item = size (mWord a y) (pUnder a (adjust a hn) y) }
 
@@ -127,7 +139,7 @@ module _ (a b : List ℕ) (ho hn hc y : ℕ) (xs ys cs ends : List ℕ) (w : Wai
   abbrev newer-same : carried b (adjust b hn) ys ≡ carried a (after a (adjust a hn) y) ys
   newer-same = dropped-newer a b ho hn hc y xs ys cs ends (w .lists) d
 
-  pub waiting-dropped : Waiting b ho hn hc xs ys cs ends
+  pub waiting-dropped : Waiting gap b ho hn hc xs ys cs ends
   waiting-dropped =
       record {
         lists = trio-dropped a b ho hn hc y xs ys cs ends (w .lists) d;
@@ -158,7 +170,7 @@ left-last a b z k h (x ∷ y ∷ rs) (p ∷ q ∷ ps) same e low some =
     ∙ ap (λ (t : ℕ). cond (eqb (mWord b t) (z .item .m)) k (z ∷ k)) (sym (last-here b 0 h x (y ∷ rs) (low .0)))
 
 -- A run of the older list was moved: its records have at least the m of the newer list's first, s.
-module _ (a b : List ℕ) (ho hn hc r s : ℕ) (xs ys cs ends ends' : List ℕ) (all : List Recorded) (run : Running a ho hn hc (r ∷ xs) (s ∷ ys) cs ends all) (tops : mWord a s ≤ mWord a r) (d : MovedFront a b ho hc (mWord a s) (pUnder a (adjust a hn) s) cs (r ∷ xs) ends') where
+module _ (gap : ℕ) (a b : List ℕ) (ho hn hc r s : ℕ) (xs ys cs ends ends' : List ℕ) (all : List Recorded) (run : Running gap a ho hn hc (r ∷ xs) (s ∷ ys) cs ends all) (tops : mWord a s ≤ mWord a r) (d : MovedFront a b ho hc (mWord a s) (pUnder a (adjust a hn) s + gap) cs (r ∷ xs) ends') where
   abbrev fr : List ℕ
   fr = front a (mWord a s) (r ∷ xs)
 
@@ -167,7 +179,7 @@ module _ (a b : List ℕ) (ho hn hc r s : ℕ) (xs ys cs ends ends' : List ℕ) 
 
   -- The newer list's first item, the items of the run, those left of the older list, and those behind the newer's first.
   abbrev against : Recorded
-  against = record { number = s; item = size (mWord a s) (pUnder a (adjust a hn) s) }
+  against = firstItem a (adjust a hn) s
 
   abbrev gone : List Recorded
   gone = carried a (adjust a ho) fr
@@ -179,30 +191,32 @@ module _ (a b : List ℕ) (ho hn hc r s : ℕ) (xs ys cs ends ends' : List ℕ) 
   later = carried a (after a (adjust a hn) s) ys
 
   parts : carried a (adjust a ho) (r ∷ xs) ≡ gone ++ stays
-  parts = older-parts a b ho hn hc (mWord a s) (pUnder a (adjust a hn) s) r xs (s ∷ ys) cs ends ends' (run .waits) d
+  parts = older-parts gap a b ho hn hc (mWord a s) (pUnder a (adjust a hn) s + gap) r xs (s ∷ ys) cs ends ends' (run .waits) d
 
   abbrev whole-order : Ordered (items gone ++ items stays)
-  whole-order = orders a b ho hn hc (mWord a s) (pUnder a (adjust a hn) s) r xs (s ∷ ys) cs ends ends' (run .waits) d
+  whole-order = orders gap a b ho hn hc (mWord a s) (pUnder a (adjust a hn) s + gap) r xs (s ∷ ys) cs ends ends' (run .waits) d
 
   above : (x : Recorded) → List·Memᴰ x gone → mWord a s ≤ x .item .m
   unfolding carried
   above x i = paired-above a (mWord a s) fr (trues a (adjust a ho) fr) (front-above a (mWord a s) (r ∷ xs)) x i
 
-  below : Below (against .item .p) gone
+  below : Below (against .item .p + gap) gone
   below x i =
+      let small =
       run .waits .small x against (subst (λ (l : List Recorded). List·Memᴰ x l) (sym parts) (Memᴰ·append-left stays i))
-      (subst (λ (l : List Recorded). List·Memᴰ against l) (sym (carried-cons a (adjust a hn) s ys)) (List·Memᴰ·head refl))
+      (carried-first a (adjust a hn) s ys) in
+      omega arith
 
-  result-carried : carried b (adjust b hc) (cs ++ fr) ≡ carried a (adjust a hc) cs ++ raisedOlder 0 against gone
-  result-carried = moved-older a b (adjust a hc) (adjust b hc) (adjust a ho) cs fr against (d .m-kept) (d .values) below
+  result-carried : carried b (adjust b hc) (cs ++ fr) ≡ carried a (adjust a hc) cs ++ raisedOlder gap against gone
+  result-carried = moved-older gap a b (adjust a hc) (adjust b hc) (adjust a ho) cs fr against (d .m-kept) (d .values) below
 
-  older-gives : carried b (adjust b hc) (cs ++ fr) ++ mergeRecorded 0 stays (leftAfter against gone later) ≡ all
+  older-gives : carried b (adjust b hc) (cs ++ fr) ++ mergeRecorded gap stays (leftAfter against gone later) ≡ all
   older-gives =
-      ap (λ (l : List Recorded). l ++ mergeRecorded 0 stays (leftAfter against gone later)) result-carried
-      ∙ append-assoc (carried a (adjust a hc) cs) (raisedOlder 0 against gone) (mergeRecorded 0 stays (leftAfter against gone later))
+      ap (λ (l : List Recorded). l ++ mergeRecorded gap stays (leftAfter against gone later)) result-carried
+      ∙ append-assoc (carried a (adjust a hc) cs) (raisedOlder gap against gone) (mergeRecorded gap stays (leftAfter against gone later))
       ∙ ap (λ (l : List Recorded). carried a (adjust a hc) cs ++ l)
-      (sym (batch-run 0 against gone stays later (ordered-left (items gone) (items stays) whole-order) above)
-      ∙ ap₂ (λ (l k : List Recorded). mergeRecorded 0 l k) (sym parts) (sym (carried-cons a (adjust a hn) s ys)))
+      (sym (batch-run gap against gone stays later (ordered-left (items gone) (items stays) whole-order) above)
+      ∙ ap₂ (λ (l k : List Recorded). mergeRecorded gap l k) (sym parts) (sym (carried-cons a (adjust a hn) s ys)))
       ∙ run .gives
 
   some-moved : 1 ≤ length fr
@@ -219,21 +233,21 @@ module _ (a b : List ℕ) (ho hn hc r s : ℕ) (xs ys cs ends ends' : List ℕ) 
       (all-right (λ x. 1 ≤ level b x) cs fr (chain-low growing b (cs ++ fr) (d .result .chain))) some-moved
       ∙ ap (λ (t : ℕ). cond (eqb (mWord b t) (mWord a s)) later (against ∷ later)) (sym (last-append b 0 hc cs fr))
 
-  abbrev waits-moved : Waiting b ho hn hc back (s ∷ ys) (cs ++ fr) ends'
-  waits-moved = waiting-moved a b ho hn hc (mWord a s) (pUnder a (adjust a hn) s) r xs (s ∷ ys) cs ends ends' (run .waits) d
+  abbrev waits-moved : Waiting gap b ho hn hc back (s ∷ ys) (cs ++ fr) ends'
+  waits-moved = waiting-moved gap a b ho hn hc (mWord a s) (pUnder a (adjust a hn) s + gap) r xs (s ∷ ys) cs ends ends' (run .waits) d
 
   abbrev newer-still : carried b (adjust b hn) (s ∷ ys) ≡ carried a (adjust a hn) (s ∷ ys)
-  newer-still = newer-kept a b ho hn hc (mWord a s) (pUnder a (adjust a hn) s) r xs (s ∷ ys) cs ends ends' (run .waits) d
+  newer-still = newer-kept gap a b ho hn hc (mWord a s) (pUnder a (adjust a hn) s + gap) r xs (s ∷ ys) cs ends ends' (run .waits) d
 
   abbrev back-carried : carried b (adjust b ho) back ≡ stays
-  back-carried = rest-carried a b ho hn hc (mWord a s) (pUnder a (adjust a hn) s) r xs (s ∷ ys) cs ends ends' (run .waits) d
+  back-carried = rest-carried gap a b ho hn hc (mWord a s) (pUnder a (adjust a hn) s + gap) r xs (s ∷ ys) cs ends ends' (run .waits) d
 
-  pub older-stays : (mWord b end ≡ mWord a s → ⊥) → Running b ho hn hc back (s ∷ ys) (cs ++ fr) ends' all
+  pub older-stays : (mWord b end ≡ mWord a s → ⊥) → Running gap b ho hn hc back (s ∷ ys) (cs ++ fr) ends' all
   older-stays other =
       record {
         waits = waits-moved;
         gives =
-            ap₂ (λ (l k : List Recorded). carried b (adjust b hc) (cs ++ fr) ++ mergeRecorded 0 l k) back-carried
+            ap₂ (λ (l k : List Recorded). carried b (adjust b hc) (cs ++ fr) ++ mergeRecorded gap l k) back-carried
             (newer-still ∙ carried-cons a (adjust a hn) s ys ∙ sym (left-after ∙ ap (λ t. cond t later (against ∷ later)) (ne-eqb (mWord b end) (mWord a s) other)))
             ∙ older-gives;
       }
@@ -245,31 +259,31 @@ module _ (a b : List ℕ) (ho hn hc r s : ℕ) (xs ys cs ends ends' : List ℕ) 
       rest [] = []
       rest (x ∷ l) = l
 
-  pub older-drops : (c : List ℕ) → mWord b end ≡ mWord a s → Dropped b c hn s ys → Running c ho hn hc back ys (cs ++ fr) ends' all
+  pub older-drops : (c : List ℕ) → mWord b end ≡ mWord a s → Dropped b c hn s ys → Running gap c ho hn hc back ys (cs ++ fr) ends' all
   older-drops c equal f =
       record {
-        waits = waiting-dropped b c ho hn hc s back ys (cs ++ fr) ends' waits-moved f;
+        waits = waiting-dropped gap b c ho hn hc s back ys (cs ++ fr) ends' waits-moved f;
         gives =
             ap₂ (λ (l k : List Recorded). l ++ k) (dropped-result b c ho hn hc s back ys (cs ++ fr) ends' (waits-moved .lists) f)
-            (ap₂ (λ (l k : List Recorded). mergeRecorded 0 l k) (dropped-older b c ho hn hc s back ys (cs ++ fr) ends' (waits-moved .lists) f ∙ back-carried)
+            (ap₂ (λ (l k : List Recorded). mergeRecorded gap l k) (dropped-older b c ho hn hc s back ys (cs ++ fr) ends' (waits-moved .lists) f ∙ back-carried)
             (dropped-newer b c ho hn hc s back ys (cs ++ fr) ends' (waits-moved .lists) f ∙ later-still ∙ sym (left-after ∙ ap (λ t. cond t later (against ∷ later)) (eq-eqb (mWord b end) (mWord a s) equal))))
             ∙ older-gives;
       }
 
 -- A run of the newer list was moved: its records have a larger m than the older list's first, r.
-module _ (a b : List ℕ) (ho hn hc r s : ℕ) (xs ys cs ends ends' : List ℕ) (all : List Recorded) (run : Running a ho hn hc (r ∷ xs) (s ∷ ys) cs ends all) (d : MovedFront a b hn hc (mWord a r + 1) (pUnder a (adjust a ho) r) cs (s ∷ ys) ends') where
+module _ (gap : ℕ) (a b : List ℕ) (ho hn hc r s : ℕ) (xs ys cs ends ends' : List ℕ) (all : List Recorded) (run : Running gap a ho hn hc (r ∷ xs) (s ∷ ys) cs ends all) (d : MovedFront a b hn hc (mWord a r + 1) (pUnder a (adjust a ho) r + gap) cs (s ∷ ys) ends') where
   abbrev run-of : List ℕ
   run-of = front a (mWord a r + 1) (s ∷ ys)
 
   abbrev kept : List ℕ
   kept = behind a (mWord a r + 1) (s ∷ ys)
 
-  abbrev swapped : Waiting a hn ho hc (s ∷ ys) (r ∷ xs) cs ends
-  swapped = waiting-swap a ho hn hc (r ∷ xs) (s ∷ ys) cs ends (run .waits)
+  abbrev swapped : Waiting gap a hn ho hc (s ∷ ys) (r ∷ xs) cs ends
+  swapped = waiting-swap gap a ho hn hc (r ∷ xs) (s ∷ ys) cs ends (run .waits)
 
   -- The older list's first item, those behind it, the items of the run, and those left of the newer list.
   abbrev facing : Recorded
-  facing = record { number = r; item = size (mWord a r) (pUnder a (adjust a ho) r) }
+  facing = firstItem a (adjust a ho) r
 
   abbrev others : List Recorded
   others = carried a (after a (adjust a ho) r) xs
@@ -281,7 +295,7 @@ module _ (a b : List ℕ) (ho hn hc r s : ℕ) (xs ys cs ends ends' : List ℕ) 
   remains = carried a (leaving a (adjust a hn) run-of) kept
 
   newer-split : carried a (adjust a hn) (s ∷ ys) ≡ taken ++ remains
-  newer-split = older-parts a b hn ho hc (mWord a r + 1) (pUnder a (adjust a ho) r) s ys (r ∷ xs) cs ends ends' swapped d
+  newer-split = older-parts gap a b hn ho hc (mWord a r + 1) (pUnder a (adjust a ho) r + gap) s ys (r ∷ xs) cs ends ends' swapped d
 
   larger : (x : Recorded) → List·Memᴰ x taken → mWord a r < x .item .m
   unfolding carried
@@ -289,32 +303,34 @@ module _ (a b : List ℕ) (ho hn hc r s : ℕ) (xs ys cs ends ends' : List ℕ) 
       let least = paired-above a (mWord a r + 1) run-of (trues a (adjust a hn) run-of) (front-above a (mWord a r + 1) (s ∷ ys)) x i in
       omega arith
 
-  fits : Below (facing .item .p) taken
+  fits : Below (facing .item .p + gap) taken
   fits x i =
+      let small =
       swapped .small x facing (subst (λ (l : List Recorded). List·Memᴰ x l) (sym newer-split) (Memᴰ·append-left remains i))
-      (subst (λ (l : List Recorded). List·Memᴰ facing l) (sym (carried-cons a (adjust a ho) r xs)) (List·Memᴰ·head refl))
+      (carried-first a (adjust a ho) r xs) in
+      omega arith
 
-  finished : carried b (adjust b hc) (cs ++ run-of) ≡ carried a (adjust a hc) cs ++ raisedNewer 0 facing taken
-  finished = moved-newer a b (adjust a hc) (adjust b hc) (adjust a hn) cs run-of facing (d .m-kept) (d .values) fits
+  finished : carried b (adjust b hc) (cs ++ run-of) ≡ carried a (adjust a hc) cs ++ raisedNewer gap facing taken
+  finished = moved-newer gap a b (adjust a hc) (adjust b hc) (adjust a hn) cs run-of facing (d .m-kept) (d .values) fits
 
-  newer-gives : carried b (adjust b hc) (cs ++ run-of) ++ mergeRecorded 0 (facing ∷ others) remains ≡ all
+  newer-gives : carried b (adjust b hc) (cs ++ run-of) ++ mergeRecorded gap (facing ∷ others) remains ≡ all
   newer-gives =
-      ap (λ (l : List Recorded). l ++ mergeRecorded 0 (facing ∷ others) remains) finished
-      ∙ append-assoc (carried a (adjust a hc) cs) (raisedNewer 0 facing taken) (mergeRecorded 0 (facing ∷ others) remains)
+      ap (λ (l : List Recorded). l ++ mergeRecorded gap (facing ∷ others) remains) finished
+      ∙ append-assoc (carried a (adjust a hc) cs) (raisedNewer gap facing taken) (mergeRecorded gap (facing ∷ others) remains)
       ∙ ap (λ (l : List Recorded). carried a (adjust a hc) cs ++ l)
-      (sym (batch-newer 0 facing taken others remains larger)
-      ∙ ap₂ (λ (l k : List Recorded). mergeRecorded 0 l k) (sym (carried-cons a (adjust a ho) r xs)) (sym newer-split))
+      (sym (batch-newer gap facing taken others remains larger)
+      ∙ ap₂ (λ (l k : List Recorded). mergeRecorded gap l k) (sym (carried-cons a (adjust a ho) r xs)) (sym newer-split))
       ∙ run .gives
 
-  pub newer-moves : Running b ho hn hc (r ∷ xs) kept (cs ++ run-of) ends' all
+  pub newer-moves : Running gap b ho hn hc (r ∷ xs) kept (cs ++ run-of) ends' all
   newer-moves =
       record {
         waits =
-            waiting-swap b hn ho hc kept (r ∷ xs) (cs ++ run-of) ends'
-            (waiting-moved a b hn ho hc (mWord a r + 1) (pUnder a (adjust a ho) r) s ys (r ∷ xs) cs ends ends' swapped d);
+            waiting-swap gap b hn ho hc kept (r ∷ xs) (cs ++ run-of) ends'
+            (waiting-moved gap a b hn ho hc (mWord a r + 1) (pUnder a (adjust a ho) r + gap) s ys (r ∷ xs) cs ends ends' swapped d);
         gives =
-            ap₂ (λ (l k : List Recorded). carried b (adjust b hc) (cs ++ run-of) ++ mergeRecorded 0 l k)
-            (newer-kept a b hn ho hc (mWord a r + 1) (pUnder a (adjust a ho) r) s ys (r ∷ xs) cs ends ends' swapped d ∙ carried-cons a (adjust a ho) r xs)
-            (rest-carried a b hn ho hc (mWord a r + 1) (pUnder a (adjust a ho) r) s ys (r ∷ xs) cs ends ends' swapped d)
+            ap₂ (λ (l k : List Recorded). carried b (adjust b hc) (cs ++ run-of) ++ mergeRecorded gap l k)
+            (newer-kept gap a b hn ho hc (mWord a r + 1) (pUnder a (adjust a ho) r + gap) s ys (r ∷ xs) cs ends ends' swapped d ∙ carried-cons a (adjust a ho) r xs)
+            (rest-carried gap a b hn ho hc (mWord a r + 1) (pUnder a (adjust a ho) r + gap) s ys (r ∷ xs) cs ends ends' swapped d)
             ∙ newer-gives;
       }

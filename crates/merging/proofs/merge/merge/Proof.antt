@@ -32,7 +32,7 @@ slice-aggregate-merge-runs-4 c = search needs
 merge-runs-requires : tie.Need-merge-runs-requires
 merge-runs-requires c κs =
     let clear = c .before .before .before .before .before .before .before in
-    (merge-ready _ _ _ _ (clear .clear-head .ensures) (entry clear .pre), merge-kept _ _ _ _ (clear .clear-head .ensures) (entry clear .pre))
+    (merge-ready _ _ _ _ _ (clear .clear-head .ensures) (entry clear .pre), merge-kept _ _ _ _ _ (clear .clear-head .ensures) (entry clear .pre))
 
 slice-aggregate-close : tie.Need-slice-aggregate-close
 slice-aggregate-close c = search needs
@@ -40,7 +40,7 @@ slice-aggregate-close c = search needs
 close-requires : tie.Need-close-requires
 close-requires c κs =
     let runs = c .before .before .before .before .before .before .before .before in
-    merge-closes _ _ _ _ (cleared runs .clear-head .ensures) _ _ (runs .merge-runs .ensures .0) (entry (cleared runs) .pre)
+    merge-closes _ _ _ _ _ (cleared runs .clear-head .ensures) _ _ (runs .merge-runs .ensures .0) (entry (cleared runs) .pre)
 
 same-length : tie.Need-same-length
 same-length c = search needs
@@ -49,7 +49,7 @@ returns : tie.Need-returns
 returns c =
     let closes = c .before .before in
     let runs = closes .before .before .before .before .before .before .before .before .before in
-    merge-done _ _ _ _ (cleared runs .clear-head .ensures) _ _ (runs .merge-runs .ensures .0) _ (closes .close .ensures)
+    merge-done _ _ _ _ _ (cleared runs .clear-head .ensures) _ _ (runs .merge-runs .ensures .0) _ (closes .close .ensures)
 
 pub merge-spec : {M : Type 1} → statement M
 merge-spec =

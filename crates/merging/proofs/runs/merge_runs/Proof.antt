@@ -10,11 +10,11 @@ use Rattle.merging.proofs.runs.merge_runs.Statement.{statement}
 use Rattle.merging.proofs.runs.merge_runs.Tie as tie
 
 abbrev Inv-loop : tie.InvT-loop
-Inv-loop arena₀ older newer ends₀ olders₀ newers₀ lasts₀ more₀ arena ends olders newers lasts more =
-    Goes arena₀ arena older newer ends₀ ends × (more ≡ bothWait arena older newer) × Kept arena older newer ends olders newers lasts
+Inv-loop arena₀ older newer rib ends₀ olders₀ newers₀ lasts₀ more₀ arena ends olders newers lasts more =
+    Goes rib arena₀ arena older newer ends₀ ends × (more ≡ bothWait arena older newer) × Kept arena older newer ends olders newers lasts
 
 abbrev μ-loop : tie.MeasureT-loop
-μ-loop arena₀ older newer ends₀ olders₀ newers₀ lasts₀ more₀ arena ends olders newers lasts more = waiting arena older newer
+μ-loop arena₀ older newer rib ends₀ olders₀ newers₀ lasts₀ more₀ arena ends olders newers lasts more = waiting arena older newer
 
 -- The states of the loop: a turn begins, the test holds, and the step is made. Both lists are where they were at the function's entry.
 module _ (c : tie.At-loop Inv-loop μ-loop) where
@@ -29,13 +29,13 @@ both-wait-requires : tie.Need-both-wait-requires Inv-loop μ-loop
 both-wait-requires c κs = search needs
 
 loop-holds : tie.Need-loop-holds Inv-loop μ-loop
-loop-holds c = (goes-start _ _ _ _, c .both-wait .ensures, c .before .before .before .before .before .before .before .pre .1)
+loop-holds c = (goes-start _ _ _ _ _, c .both-wait .ensures, c .before .before .before .before .before .before .before .pre .1)
 
 step-requires : tie.Need-step-requires Inv-loop μ-loop
 step-requires c κs =
     let turn = c .before .before .before .before .before in
     let loop = turn .before in
-    (goes-ready _ _ _ _ _ _ _ (loop .loop .inv .0) (loop .loop .inv .1) (turn .loop-test .taken) (entry loop .pre .0), loop .loop .inv .2)
+    (goes-ready _ _ _ _ _ _ _ _ (loop .loop .inv .0) (loop .loop .inv .1) (turn .loop-test .taken) (entry loop .pre .0), loop .loop .inv .2)
 
 both-wait-requires-2 : tie.Need-both-wait-requires-2 Inv-loop μ-loop
 both-wait-requires-2 c κs =
@@ -54,7 +54,7 @@ loop-less c =
     let stepped = written .before .before .before .before .before .before in
     let turn = at-turn stepped in
     let loop = turn .before in
-    goes-less _ _ _ _ _ _ _ (loop .loop .inv .0) (loop .loop .inv .1) (turn .loop-test .taken) _ _ (stepped .step .ensures .0) (entry loop .pre .0)
+    goes-less _ _ _ _ _ _ _ _ (loop .loop .inv .0) (loop .loop .inv .1) (turn .loop-test .taken) _ _ (stepped .step .ensures .0) (entry loop .pre .0)
 
 loop-again : tie.Need-loop-again Inv-loop μ-loop
 loop-again c =
@@ -62,7 +62,7 @@ loop-again c =
     let stepped = written .before .before .before .before .before .before in
     let turn = at-turn stepped in
     let loop = turn .before in
-    (goes-turn _ _ _ _ _ _ _ (loop .loop .inv .0) (loop .loop .inv .1) (turn .loop-test .taken) _ _ (stepped .step .ensures .0) (search needs) (search needs), c .both-wait2 .ensures, stepped .step .ensures .1)
+    (goes-turn _ _ _ _ _ _ _ _ (loop .loop .inv .0) (loop .loop .inv .1) (turn .loop-test .taken) _ _ (stepped .step .ensures .0) (search needs) (search needs), c .both-wait2 .ensures, stepped .step .ensures .1)
 
 same-length : tie.Need-same-length Inv-loop μ-loop
 same-length c = c .before .loop .inv .0 .length-kept
@@ -80,7 +80,7 @@ same-length-5 : tie.Need-same-length-5 Inv-loop μ-loop
 same-length-5 c = c .before .loop .inv .2 .ends .nine ∙ sym (entry (c .before) .pre .1 .ends .nine)
 
 returns : tie.Need-returns Inv-loop μ-loop
-returns c = (goes-done _ _ _ _ _ _ _ (c .before .loop .inv .0) (c .before .loop .inv .1) (c .loop-test .left), c .before .loop .inv .2)
+returns c = (goes-done _ _ _ _ _ _ _ _ (c .before .loop .inv .0) (c .before .loop .inv .1) (c .loop-test .left), c .before .loop .inv .2)
 
 pub merge-runs-spec : {M : Type 1} → statement M
 merge-runs-spec =

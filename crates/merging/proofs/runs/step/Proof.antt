@@ -34,11 +34,11 @@ module _ (c : tie.After-get4) where
   abbrev start : tie.Start
   start = entry at-firsts
 
-  older-ready : c .get4 .result ≤ at-top .get3 .result → OlderReady (start .args .arena .now) (start .args .older) (start .args .newer) (start .args .ends .now)
-  older-ready low = step-older _ _ _ _ _ _ (older-is at-firsts) (newer-is at-firsts) _ _ (at-top .get3 .ensures) (c .get4 .ensures) low (start .pre .0)
+  older-ready : c .get4 .result ≤ at-top .get3 .result → OlderReady (start .args .rib) (start .args .arena .now) (start .args .older) (start .args .newer) (start .args .ends .now)
+  older-ready low = step-older _ _ _ _ _ _ _ (older-is at-firsts) (newer-is at-firsts) _ _ (at-top .get3 .ensures) (c .get4 .ensures) low (start .pre .0)
 
-  newer-ready : at-top .get3 .result < c .get4 .result → NewerReady (start .args .arena .now) (start .args .older) (start .args .newer) (start .args .ends .now)
-  newer-ready less = step-newer _ _ _ _ _ _ (older-is at-firsts) (newer-is at-firsts) _ _ (at-top .get3 .ensures) (c .get4 .ensures) less (start .pre .0)
+  newer-ready : at-top .get3 .result < c .get4 .result → NewerReady (start .args .rib) (start .args .arena .now) (start .args .older) (start .args .newer) (start .args .ends .now)
+  newer-ready less = step-newer _ _ _ _ _ _ _ (older-is at-firsts) (newer-is at-firsts) _ _ (at-top .get3 .ensures) (c .get4 .ensures) less (start .pre .0)
 
 module _ (c : tie.After-older-step) where
   abbrev at-then : tie.Then1
@@ -63,12 +63,12 @@ wide-requires-2 c κs = search needs
 get-requires-3 : tie.Need-get-requires-3
 get-requires-3 c κs =
     let at-newer = c .before in
-    (step-older-has _ _ _ _ _ _ (older-is at-newer) (newer-is at-newer) (entry at-newer .pre .0), search needs)
+    (step-older-has _ _ _ _ _ _ _ (older-is at-newer) (newer-is at-newer) (entry at-newer .pre .0), search needs)
 
 get-requires-4 : tie.Need-get-requires-4
 get-requires-4 c κs =
     let at-newer = c .before .before .before in
-    (step-newer-has _ _ _ _ _ _ (older-is at-newer) (newer-is at-newer) (entry at-newer .pre .0), search needs)
+    (step-newer-has _ _ _ _ _ _ _ (older-is at-newer) (newer-is at-newer) (entry at-newer .pre .0), search needs)
 
 older-step-requires : tie.Need-older-step-requires
 older-step-requires c κs =
@@ -104,7 +104,7 @@ returns c =
     let test = at-then stepped in
     let at-both = test .before in
     let at-pair = at-firsts at-both in
-    (step-older-done _ _ _ _ _ _ (older-is at-pair) (newer-is at-pair) _ _ (at-top at-both .get3 .ensures) (at-both .get4 .ensures) _ _ (let t = test .if1 .taken in omega arith) (stepped .older-step .ensures .0), stepped .older-step .ensures .1)
+    (step-older-done _ _ _ _ _ _ _ (older-is at-pair) (newer-is at-pair) _ _ (at-top at-both .get3 .ensures) (at-both .get4 .ensures) _ _ (let t = test .if1 .taken in omega arith) (stepped .older-step .ensures .0), stepped .older-step .ensures .1)
 
 same-length-6 : tie.Need-same-length-6
 same-length-6 c = search needs
@@ -128,7 +128,7 @@ returns-2 c =
     let test = at-else stepped in
     let at-both = test .before in
     let at-pair = at-firsts at-both in
-    (step-newer-done _ _ _ _ _ _ (older-is at-pair) (newer-is at-pair) _ _ (at-top at-both .get3 .ensures) (at-both .get4 .ensures) _ _ (let t = test .if1 .left in omega arith) (stepped .newer-step .ensures .0), stepped .newer-step .ensures .1)
+    (step-newer-done _ _ _ _ _ _ _ (older-is at-pair) (newer-is at-pair) _ _ (at-top at-both .get3 .ensures) (at-both .get4 .ensures) _ _ (let t = test .if1 .left in omega arith) (stepped .newer-step .ensures .0), stepped .newer-step .ensures .1)
 
 pub step-spec : {M : Type 1} → statement M
 step-spec =

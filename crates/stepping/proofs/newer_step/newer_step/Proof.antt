@@ -1,15 +1,15 @@
 -- `stepping::newer_step::newer_step` meets its contract: the merge is further on, by a run of the newer list.
 -- Its key is one above the m of the older list's first record, so that the newer records above that m move, and `NewerStep` says what they do to the merge and to the sums kept.
-use mathlib.Core.Path.{_≡_, _∙_}
+use mathlib.Core.Path.{_≡_, ap, _∙_}
 use mathlib.Core.Bool.{Bool}
-use Prim.Native.Nat.{_+_}
+use Prim.Native.Nat.{ℕ, _+_}
 use borrow.Author.Needs.{needs}
 use Rattle.arena.specs.Arena.{word, forward, adjust}
 use Rattle.arena.specs.inside.Chain.{pUnder}
 use Rattle.searching.specs.inside.Cut.{passes}
 use Rattle.searching.proofs.Passing.{link-reach}
 use Rattle.moving.proofs.RunLaws.{second-passes}
-use Rattle.stepping.proofs.NewerStep.{newer-has, newer-room, newer-movable, newer-summable, newer-cached, newer-kept, newer-done}
+use Rattle.stepping.proofs.NewerStep.{newer-has, newer-room, newer-fits, newer-movable, newer-summable, newer-cached, newer-kept, newer-done}
 use Rattle.stepping.proofs.newer_step.newer_step.Statement.{statement}
 use Rattle.stepping.proofs.newer_step.newer_step.Tie as tie
 
@@ -51,17 +51,21 @@ wide-requires : tie.Need-wide-requires
 wide-requires c κs = search needs
 
 get-requires-2 : tie.Need-get-requires-2
-get-requires-2 c κs = (newer-has _ _ _ _ _ (entry (c .before) .pre .0) (is-first (c .before)), search needs)
+get-requires-2 c κs = (newer-has _ _ _ _ _ _ (entry (c .before) .pre .0) (is-first (c .before)), search needs)
 
 add-key : tie.Need-add-key
 add-key c =
     let first = c .before .before in
-    record { fits = newer-room _ _ _ _ _ (entry first .pre .0) (is-first first) _ (c .get2 .ensures) }
+    record { fits = newer-room _ _ _ _ _ _ (entry first .pre .0) (is-first first) _ (c .get2 .ensures) }
 
 true-p-requires : tie.Need-true-p-requires
 true-p-requires c κs =
     let first = c .before .before .before .before in
-    newer-summable _ _ _ _ _ (entry first .pre .0) (is-first first) _ _ _ (entry first .pre .1)
+    newer-summable _ _ _ _ _ _ (entry first .pre .0) (is-first first) _ _ _ (entry first .pre .1)
+
+add-q : tie.Need-add-q
+add-q c =
+    record { fits = newer-fits _ _ _ _ _ _ (start c .pre .0) (is-first (at-first c)) _ (q-is c) }
 
 get-requires-3 : tie.Need-get-requires-3
 get-requires-3 c κs = search needs
@@ -73,20 +77,20 @@ may-pass-requires : tie.Need-may-pass-requires
 may-pass-requires c κs =
     let at-second = c .before in
     let q = at-second .before .before .before in
-    let w = newer-movable _ _ _ _ _ (start q .pre .0) (is-first (at-first q)) _ (at-key q .get2 .ensures) in
+    let w = newer-movable _ _ _ _ _ _ (start q .pre .0) (is-first (at-first q)) _ (at-key q .get2 .ensures) in
     (link-reach _ _ _ (w .list) 1 _ _ (search needs) (at-second .before .get3 .ensures) (at-second .wide2 .ensures), w .some)
 
 linked-run-requires : tie.Need-linked-run-requires
 linked-run-requires c κs =
     let at-test = c .before .before .before .before .before in
     let q = at-q at-test in
-    ((_, _, _, _, newer-movable _ _ _ _ _ (start q .pre .0) (is-first (at-first q)) _ (at-key q .get2 .ensures)), (second at-test _ (c .before .before .before .before .if1 .taken), newer-cached _ _ _ _ _ (start q .pre .0) (is-first (at-first q)) _ _ _ (start q .pre .1)))
+    ((_, _, _, _, newer-movable _ _ _ _ _ _ (start q .pre .0) (is-first (at-first q)) _ (at-key q .get2 .ensures)), (second at-test _ (c .before .before .before .before .if1 .taken), newer-cached _ _ _ _ _ _ (start q .pre .0) (is-first (at-first q)) _ _ _ (start q .pre .1)))
 
 walk-run-requires : tie.Need-walk-run-requires
 walk-run-requires c κs =
     let at-test = c .before .before .before .before .before in
     let q = at-q at-test in
-    ((_, _, _, _, newer-movable _ _ _ _ _ (start q .pre .0) (is-first (at-first q)) _ (at-key q .get2 .ensures)), (second at-test _ (c .before .before .before .before .if1 .left), newer-cached _ _ _ _ _ (start q .pre .0) (is-first (at-first q)) _ _ _ (start q .pre .1)))
+    ((_, _, _, _, newer-movable _ _ _ _ _ _ (start q .pre .0) (is-first (at-first q)) _ (at-key q .get2 .ensures)), (second at-test _ (c .before .before .before .before .if1 .left), newer-cached _ _ _ _ _ _ (start q .pre .0) (is-first (at-first q)) _ _ _ (start q .pre .1)))
 
 same-length : tie.Need-same-length
 same-length c = search needs
@@ -107,8 +111,8 @@ returns : tie.Need-returns
 returns c =
     let at-run = c .before .before .before .before .before .before .before .before in
     let q = at-q (at-run .before .before .before .before .before .before) in (
-      newer-done _ _ _ _ _ _ _ _ _ (is-first (at-first q)) (at-key q .get2 .ensures) (q-is q) (at-run .linked-run .ensures .0),
-      newer-kept _ _ _ _ _ (start q .pre .0) (is-first (at-first q)) _ _ _ (start q .pre .1) _ (at-key q .get2 .ensures) _ _ _ (at-run .linked-run .ensures .0) _ _ (at-run .linked-run .ensures .1),
+      newer-done _ _ _ _ _ _ _ _ _ _ (is-first (at-first q)) (at-key q .get2 .ensures) (ap (λ (x : ℕ). x + start q .args .rib) (q-is q)) (at-run .linked-run .ensures .0),
+      newer-kept _ _ _ _ _ _ (start q .pre .0) (is-first (at-first q)) _ _ _ (start q .pre .1) _ (at-key q .get2 .ensures) _ _ _ (at-run .linked-run .ensures .0) _ _ (at-run .linked-run .ensures .1),
     )
 
 same-length-6 : tie.Need-same-length-6
@@ -130,8 +134,8 @@ returns-2 : tie.Need-returns-2
 returns-2 c =
     let at-run = c .before .before .before .before in
     let q = at-q (at-run .before .before .before .before .before .before) in (
-      newer-done _ _ _ _ _ _ _ _ _ (is-first (at-first q)) (at-key q .get2 .ensures) (q-is q) (at-run .walk-run .ensures .0),
-      newer-kept _ _ _ _ _ (start q .pre .0) (is-first (at-first q)) _ _ _ (start q .pre .1) _ (at-key q .get2 .ensures) _ _ _ (at-run .walk-run .ensures .0) _ _ (at-run .walk-run .ensures .1),
+      newer-done _ _ _ _ _ _ _ _ _ _ (is-first (at-first q)) (at-key q .get2 .ensures) (ap (λ (x : ℕ). x + start q .args .rib) (q-is q)) (at-run .walk-run .ensures .0),
+      newer-kept _ _ _ _ _ _ (start q .pre .0) (is-first (at-first q)) _ _ _ (start q .pre .1) _ (at-key q .get2 .ensures) _ _ _ (at-run .walk-run .ensures .0) _ _ (at-run .walk-run .ensures .1),
     )
 
 pub newer-step-spec : {M : Type 1} → statement M
@@ -143,6 +147,7 @@ newer-step-spec =
     get-requires-2
     add-key
     true-p-requires
+    add-q
     get-requires-3
     wide-requires-2
     may-pass-requires

@@ -1,7 +1,8 @@
 -- `stepping::older_step::older_step` meets its contract: the merge is further on, by a run of the older list.
 -- Its key is the m of the newer list's first record, so that the older records that are not below it move; `OlderStep` says what they do to the merge and to the sums kept, and that the first record leaves where the last of them has its m.
-use mathlib.Core.Path.{_≡_, _∙_}
+use mathlib.Core.Path.{_≡_, ap, _∙_}
 use mathlib.Core.Bool.{Bool}
+use Prim.Native.Nat.{ℕ, _+_}
 use native.Mathlib.Omega.{arith}
 use borrow.Author.Needs.{needs}
 use Rattle.arena.specs.Arena.{word, forward, adjust}
@@ -9,7 +10,7 @@ use Rattle.arena.specs.inside.Chain.{pUnder}
 use Rattle.searching.specs.inside.Cut.{passes}
 use Rattle.searching.proofs.Passing.{link-reach}
 use Rattle.moving.proofs.RunLaws.{second-passes}
-use Rattle.stepping.proofs.OlderStep.{older-has, older-summable, older-movable, older-moved, tied, older-done, tied-kept}
+use Rattle.stepping.proofs.OlderStep.{older-has, older-summable, older-fits, older-movable, older-moved, tied, older-done, tied-kept}
 use Rattle.stepping.proofs.older_step.older_step.Statement.{statement}
 use Rattle.stepping.proofs.older_step.older_step.Tie as tie
 
@@ -51,12 +52,16 @@ wide-requires : tie.Need-wide-requires
 wide-requires c κs = search needs
 
 get-requires-2 : tie.Need-get-requires-2
-get-requires-2 c κs = (older-has _ _ _ _ _ (entry (c .before) .pre .0) (is-first (c .before)), search needs)
+get-requires-2 c κs = (older-has _ _ _ _ _ _ (entry (c .before) .pre .0) (is-first (c .before)), search needs)
 
 true-p-requires : tie.Need-true-p-requires
 true-p-requires c κs =
     let first = c .before .before .before .before in
-    older-summable _ _ _ _ _ (entry first .pre .0) (is-first first) _ _ _ (entry first .pre .1)
+    older-summable _ _ _ _ _ _ (entry first .pre .0) (is-first first) _ _ _ (entry first .pre .1)
+
+add-q : tie.Need-add-q
+add-q c =
+    record { fits = older-fits _ _ _ _ _ _ (start c .pre .0) (is-first (at-first c)) _ (q-is c) }
 
 get-requires-3 : tie.Need-get-requires-3
 get-requires-3 c κs = search needs
@@ -68,7 +73,7 @@ may-pass-requires : tie.Need-may-pass-requires
 may-pass-requires c κs =
     let at-second = c .before in
     let q = at-second .before .before .before in
-    let w = older-movable _ _ _ _ _ (start q .pre .0) (is-first (at-first q)) _ (at-key q .get2 .ensures) in
+    let w = older-movable _ _ _ _ _ _ (start q .pre .0) (is-first (at-first q)) _ (at-key q .get2 .ensures) in
     (link-reach _ _ _ (w .list) 1 _ _ (search needs) (at-second .before .get3 .ensures) (at-second .wide2 .ensures), w .some)
 
 linked-run-requires : tie.Need-linked-run-requires
@@ -76,14 +81,14 @@ linked-run-requires c κs =
     let at-test = c .before .before .before .before .before in
     let q = at-q at-test in
     let kept = start q .pre .1 in
-    ((_, _, _, _, older-movable _ _ _ _ _ (start q .pre .0) (is-first (at-first q)) _ (at-key q .get2 .ensures)), (second at-test _ (c .before .before .before .before .if1 .taken), record { head = kept .older; ends = kept .ends }))
+    ((_, _, _, _, older-movable _ _ _ _ _ _ (start q .pre .0) (is-first (at-first q)) _ (at-key q .get2 .ensures)), (second at-test _ (c .before .before .before .before .if1 .taken), record { head = kept .older; ends = kept .ends }))
 
 slice-read-drop-tied : tie.Need-slice-read-drop-tied
 slice-read-drop-tied c =
     let handed-back = c .before .before .before .before .before in
     let at-run = handed-back .before .before .before .before .before in
     let q = at-q (at-run .before .before .before .before .before .before) in
-    let long = older-moved _ _ _ _ _ (start q .pre .0) (is-first (at-first q)) _ (at-key q .get2 .ensures) _ _ _ (q-is q) (at-run .linked-run .ensures .0) .result-ends .long in
+    let long = older-moved _ _ _ _ _ _ (start q .pre .0) (is-first (at-first q)) _ (at-key q .get2 .ensures) _ _ _ (ap (λ (x : ℕ). x + start q .args .rib) (q-is q)) (at-run .linked-run .ensures .0) .result-ends .long in
     omega arith
 
 drop-tied-requires : tie.Need-drop-tied-requires
@@ -91,27 +96,27 @@ drop-tied-requires c κs =
     let handed-back = c .before .before .before .before .before .before in
     let at-run = handed-back .before .before .before .before .before in
     let q = at-q (at-run .before .before .before .before .before .before) in
-    tied _ _ _ _ _ (start q .pre .0) (is-first (at-first q)) _ (at-key q .get2 .ensures) _ _ _ (q-is q) (at-run .linked-run .ensures .0) _ _ _ _ _ (start q .pre .1) (at-run .linked-run .ensures .1)
+    tied _ _ _ _ _ _ (start q .pre .0) (is-first (at-first q)) _ (at-key q .get2 .ensures) _ _ _ (ap (λ (x : ℕ). x + start q .args .rib) (q-is q)) (at-run .linked-run .ensures .0) _ _ _ _ _ (start q .pre .1) (at-run .linked-run .ensures .1)
 
 walk-run-requires : tie.Need-walk-run-requires
 walk-run-requires c κs =
     let at-test = c .before .before .before .before .before in
     let q = at-q at-test in
     let kept = start q .pre .1 in
-    ((_, _, _, _, older-movable _ _ _ _ _ (start q .pre .0) (is-first (at-first q)) _ (at-key q .get2 .ensures)), (second at-test _ (c .before .before .before .before .if1 .left), record { head = kept .older; ends = kept .ends }))
+    ((_, _, _, _, older-movable _ _ _ _ _ _ (start q .pre .0) (is-first (at-first q)) _ (at-key q .get2 .ensures)), (second at-test _ (c .before .before .before .before .if1 .left), record { head = kept .older; ends = kept .ends }))
 
 slice-read-drop-tied-2 : tie.Need-slice-read-drop-tied-2
 slice-read-drop-tied-2 c =
     let at-run = c .before .before .before .before .before .before in
     let q = at-q (at-run .before .before .before .before .before .before) in
-    let long = older-moved _ _ _ _ _ (start q .pre .0) (is-first (at-first q)) _ (at-key q .get2 .ensures) _ _ _ (q-is q) (at-run .walk-run .ensures .0) .result-ends .long in
+    let long = older-moved _ _ _ _ _ _ (start q .pre .0) (is-first (at-first q)) _ (at-key q .get2 .ensures) _ _ _ (ap (λ (x : ℕ). x + start q .args .rib) (q-is q)) (at-run .walk-run .ensures .0) .result-ends .long in
     omega arith
 
 drop-tied-requires-2 : tie.Need-drop-tied-requires-2
 drop-tied-requires-2 c κs =
     let at-run = c .before .before .before .before .before .before .before in
     let q = at-q (at-run .before .before .before .before .before .before) in
-    tied _ _ _ _ _ (start q .pre .0) (is-first (at-first q)) _ (at-key q .get2 .ensures) _ _ _ (q-is q) (at-run .walk-run .ensures .0) _ _ _ _ _ (start q .pre .1) (at-run .walk-run .ensures .1)
+    tied _ _ _ _ _ _ (start q .pre .0) (is-first (at-first q)) _ (at-key q .get2 .ensures) _ _ _ (ap (λ (x : ℕ). x + start q .args .rib) (q-is q)) (at-run .walk-run .ensures .0) _ _ _ _ _ (start q .pre .1) (at-run .walk-run .ensures .1)
 
 same-length : tie.Need-same-length
 same-length c = search needs
@@ -134,8 +139,8 @@ returns c =
     let handed-back = at-drop .before .before .before .before .before .before .before in
     let at-run = handed-back .before .before .before .before .before in
     let q = at-q (at-run .before .before .before .before .before .before) in (
-      older-done _ _ _ _ _ _ _ _ _ (is-first (at-first q)) (at-key q .get2 .ensures) (q-is q) (at-run .linked-run .ensures .0) _ _ _ (at-drop .drop-tied .ensures),
-      tied-kept _ _ _ _ _ _ _ _ _ (is-first (at-first q)) (at-key q .get2 .ensures) (q-is q) (at-run .linked-run .ensures .0) _ _ _ (at-drop .drop-tied .ensures) (start q .pre .0) _ _ _ _ (start q .pre .1) (at-run .linked-run .ensures .1),
+      older-done _ _ _ _ _ _ _ _ _ _ (is-first (at-first q)) (at-key q .get2 .ensures) (ap (λ (x : ℕ). x + start q .args .rib) (q-is q)) (at-run .linked-run .ensures .0) _ _ _ (at-drop .drop-tied .ensures),
+      tied-kept _ _ _ _ _ _ _ _ _ _ (is-first (at-first q)) (at-key q .get2 .ensures) (ap (λ (x : ℕ). x + start q .args .rib) (q-is q)) (at-run .linked-run .ensures .0) _ _ _ (at-drop .drop-tied .ensures) (start q .pre .0) _ _ _ _ (start q .pre .1) (at-run .linked-run .ensures .1),
     )
 
 same-length-6 : tie.Need-same-length-6
@@ -158,8 +163,8 @@ returns-2 c =
     let at-drop = c .before .before .before .before in
     let at-run = at-drop .before .before .before .before .before .before .before .before in
     let q = at-q (at-run .before .before .before .before .before .before) in (
-      older-done _ _ _ _ _ _ _ _ _ (is-first (at-first q)) (at-key q .get2 .ensures) (q-is q) (at-run .walk-run .ensures .0) _ _ _ (at-drop .drop-tied2 .ensures),
-      tied-kept _ _ _ _ _ _ _ _ _ (is-first (at-first q)) (at-key q .get2 .ensures) (q-is q) (at-run .walk-run .ensures .0) _ _ _ (at-drop .drop-tied2 .ensures) (start q .pre .0) _ _ _ _ (start q .pre .1) (at-run .walk-run .ensures .1),
+      older-done _ _ _ _ _ _ _ _ _ _ (is-first (at-first q)) (at-key q .get2 .ensures) (ap (λ (x : ℕ). x + start q .args .rib) (q-is q)) (at-run .walk-run .ensures .0) _ _ _ (at-drop .drop-tied2 .ensures),
+      tied-kept _ _ _ _ _ _ _ _ _ _ (is-first (at-first q)) (at-key q .get2 .ensures) (ap (λ (x : ℕ). x + start q .args .rib) (q-is q)) (at-run .walk-run .ensures .0) _ _ _ (at-drop .drop-tied2 .ensures) (start q .pre .0) _ _ _ _ (start q .pre .1) (at-run .walk-run .ensures .1),
     )
 
 pub older-step-spec : {M : Type 1} → statement M
@@ -170,6 +175,7 @@ older-step-spec =
     wide-requires
     get-requires-2
     true-p-requires
+    add-q
     get-requires-3
     wide-requires-2
     may-pass-requires
