@@ -5,6 +5,7 @@ use mathlib.Core.List.{List}
 use Prim.Native.Nat.{ℕ, _+_, _≤_}
 use native.Mathlib.Omega.{arith}
 use lib.ListN.{length-append}
+use Rattle.checks.specs.Limits.{mostRib}
 use Rattle.slicing.specs.Tree.{Tree, gauge, beside, stacked, sizesOf, gaugeCount, sizeCount}
 use Rattle.slicing.specs.Good.{Good}
 use Rattle.slicing.specs.Recorded.{Recorded, mergeRecorded, turnRecorded, shapesRecorded, partRecorded}
@@ -14,42 +15,43 @@ use Rattle.parts.specs.inside.Part.{Suits}
 use Rattle.parts.specs.inside.Joining.{turnedIf}
 use Rattle.entries.specs.inside.Kinds.{kindOf, across, Cut, cut-beside, cut-stacked}
 
-beside-faces : (r : ℕ) (t : Tree) → turnedIf (across (kindOf t) 0x02) (partRecorded 0 r t) ≡ shapesRecorded 0 r t
+beside-faces : (gap r : ℕ) (t : Tree) → turnedIf (across (kindOf t) 0x02) (partRecorded gap r t) ≡ shapesRecorded gap r t
 unfolding across
-beside-faces r (gauge s) = part-gauge 0 r s
-beside-faces r (beside a b) = part-beside 0 r a b
-beside-faces r (stacked a b) = sym (shapes-stacked 0 r a b)
+beside-faces gap r (gauge s) = part-gauge gap r s
+beside-faces gap r (beside a b) = part-beside gap r a b
+beside-faces gap r (stacked a b) = sym (shapes-stacked gap r a b)
 
-stacked-faces : (r : ℕ) (t : Tree) → turnedIf (across (kindOf t) 0x03) (partRecorded 0 r t) ≡ turnRecorded (shapesRecorded 0 r t)
+stacked-faces : (gap r : ℕ) (t : Tree) → turnedIf (across (kindOf t) 0x03) (partRecorded gap r t) ≡ turnRecorded (shapesRecorded gap r t)
 unfolding across
-stacked-faces r (gauge s) = ap turnRecorded (part-gauge 0 r s)
-stacked-faces r (beside a b) = ap turnRecorded (part-beside 0 r a b)
-stacked-faces r (stacked a b) = part-stacked 0 r a b
+stacked-faces gap r (gauge s) = ap turnRecorded (part-gauge gap r s)
+stacked-faces gap r (beside a b) = ap turnRecorded (part-beside gap r a b)
+stacked-faces gap r (stacked a b) = part-stacked gap r a b
 
-pub faces-suit : (kind : ℕ) (cut : Tree → Tree → Tree) → Cut kind cut → (r : ℕ) (t : Tree) → Good t → gaugeCount t ≤ 64 → sizeCount t ≤ 512 → Suits (turnedIf (across (kindOf t) kind) (partRecorded 0 r t))
-faces-suit kind cut cut-beside r t good few sizes =
-    subst (λ (l : List Recorded). Suits l) (sym (beside-faces r t))
+pub faces-suit : (gap kind : ℕ) (cut : Tree → Tree → Tree) → gap ≤ mostRib → Cut kind cut → (r : ℕ) (t : Tree) → Good t → gaugeCount t ≤ 64 → sizeCount t ≤ 512 → Suits (turnedIf (across (kindOf t) kind) (partRecorded gap r t))
+faces-suit gap kind cut narrow cut-beside r t good few sizes =
+    subst (λ (l : List Recorded). Suits l) (sym (beside-faces gap r t))
     (record {
-      ordered = recorded-ordered 0 r t good;
-      some = λ x i. recorded-some r t good x i .0;
-      low = λ x i. let b = recorded-low r t good x i in let m = b .0 in let p = b .1 in (omega arith, omega arith);
-      few = let f = recorded-few 0 r t good in let some = depth-few t in omega arith;
+      ordered = recorded-ordered gap r t good;
+      some = λ x i. recorded-some gap r t good x i .0;
+      low = λ x i. let b = recorded-low gap r t narrow good x i in let m = b .0 in let p = b .1 in (omega arith, omega arith);
+      few = let f = recorded-few gap r t good in let some = depth-few t in omega arith;
     })
-faces-suit kind cut cut-stacked r t good few sizes =
-    subst (λ (l : List Recorded). Suits l) (sym (stacked-faces r t))
+faces-suit gap kind cut narrow cut-stacked r t good few sizes =
+    subst (λ (l : List Recorded). Suits l) (sym (stacked-faces gap r t))
     (record {
-      ordered = turned-ordered 0 r t good;
-      some = λ x i. turned-some r t good x i .0;
-      low = λ x i. let b = turned-low r t good x i in let m = b .0 in let p = b .1 in (omega arith, omega arith);
-      few = let f = turned-few 0 r t good in let some = depth-few t in omega arith;
+      ordered = turned-ordered gap r t good;
+      some = λ x i. turned-some gap r t good x i .0;
+      low = λ x i. let b = turned-low gap r t narrow good x i in let m = b .0 in let p = b .1 in (omega arith, omega arith);
+      few = let f = turned-few gap r t good in let some = depth-few t in omega arith;
     })
 
-pub cut-part : (kind : ℕ) (cut : Tree → Tree → Tree) → Cut kind cut → (r mid : ℕ) (a b : Tree) → mid ≡ r + sizeCount a → mergeRecorded 0 (turnedIf (across (kindOf a) kind) (partRecorded 0 r a)) (turnedIf (across (kindOf b) kind) (partRecorded 0 mid b)) ≡ partRecorded 0 r (cut a b)
+pub cut-part : (gap kind : ℕ) (cut : Tree → Tree → Tree) → Cut kind cut → (r mid : ℕ) (a b : Tree) → mid ≡ r + sizeCount a
+    → mergeRecorded gap (turnedIf (across (kindOf a) kind) (partRecorded gap r a)) (turnedIf (across (kindOf b) kind) (partRecorded gap mid b)) ≡ partRecorded gap r (cut a b)
 unfolding partRecorded
-cut-part kind cut cut-beside r mid a b e =
-    ap₂ (mergeRecorded 0) (beside-faces r a) (beside-faces mid b ∙ ap (λ (x : ℕ). shapesRecorded 0 x b) e)
-cut-part kind cut cut-stacked r mid a b e =
-    ap₂ (mergeRecorded 0) (stacked-faces r a) (stacked-faces mid b ∙ ap (λ (x : ℕ). turnRecorded (shapesRecorded 0 x b)) e)
+cut-part gap kind cut cut-beside r mid a b e =
+    ap₂ (mergeRecorded gap) (beside-faces gap r a) (beside-faces gap mid b ∙ ap (λ (x : ℕ). shapesRecorded gap x b) e)
+cut-part gap kind cut cut-stacked r mid a b e =
+    ap₂ (mergeRecorded gap) (stacked-faces gap r a) (stacked-faces gap mid b ∙ ap (λ (x : ℕ). turnRecorded (shapesRecorded gap x b)) e)
 
 pub cut-sizes : (kind : ℕ) (cut : Tree → Tree → Tree) → Cut kind cut → (a b : Tree) → sizeCount (cut a b) ≡ sizeCount a + sizeCount b
 cut-sizes kind cut cut-beside a b = length-append (sizesOf a) (sizesOf b)

@@ -6,6 +6,7 @@ use mathlib.Core.List.{List, [], _∷_, List·Memᴰ, List·Memᴰ·head, List·
 use Prim.Native.Nat.{ℕ, _+_, _-_, _≤_, _<_}
 use native.Mathlib.Omega.{arith}
 use lib.ListN.{getD}
+use Rattle.checks.specs.Limits.{mostRib, mostOpening}
 use Rattle.checks.proofs.Cases.{cond-holds}
 use Rattle.slicing.specs.Good.{Ordered}
 use Rattle.slicing.specs.Recorded.{Recorded, mergeRecorded, items}
@@ -52,8 +53,8 @@ heads-apart false true place low e = omega arith
 heads-apart false false place low e = omega arith
 
 -- Two parts of neighbouring ranges can be merged to record 0.
-module _ (levels c : List ℕ) (x y lo mid hi : ℕ) (l k : List Recorded) (p : Part levels c x lo mid l) (q : Part levels c y mid hi k) where
-  module _ (older-range : Ranged c lo mid) (newer-range : Ranged c mid hi) (older-suits : Suits l) (newer-suits : Suits k) (x-high : firstHead ≤ x) (y-high : firstHead ≤ y) (apart : x ≡ y → ⊥) where
+module _ (gap : ℕ) (levels c : List ℕ) (x y lo mid hi : ℕ) (l k : List Recorded) (p : Part levels c x lo mid l) (q : Part levels c y mid hi k) where
+  module _ (narrow : gap ≤ mostRib) (older-range : Ranged c lo mid) (newer-range : Ranged c mid hi) (older-suits : Suits l) (newer-suits : Suits k) (x-high : firstHead ≤ x) (y-high : firstHead ≤ y) (apart : x ≡ y → ⊥) where
     off : (low high z : ℕ) (rs : List ℕ) → high ≤ z → All (λ u. (low ≤ u) × (u < high)) rs → Away z rs
     off low high z rs above inside = away-out low high z rs (λ i. let v = i .1 in omega arith) inside
 
@@ -63,9 +64,9 @@ module _ (levels c : List ℕ) (x y lo mid hi : ℕ) (l k : List Recorded) (p : 
     room : (h low high : ℕ) (g : List Recorded) (z : Part levels c h low high g) → Suits g → All (Roomy c) (z .list)
     room h low high g z suits =
         all-map (z .list) (λ u few. let low = few .0 in let high = few .1 in record { some = omega arith; small = omega arith })
-        (held-all (λ m. (1 ≤ m) × (m ≤ 64_000)) c h [] (z .list) (λ u i. let in-list = subst (λ (r : List Recorded). List·Memᴰ u r) (z .holds) i in (suits .some u in-list, suits .low u in-list .0)))
+        (held-all (λ m. (1 ≤ m) × (m ≤ mostOpening)) c h [] (z .list) (λ u i. let in-list = subst (λ (r : List Recorded). List·Memᴰ u r) (z .holds) i in (suits .some u in-list, suits .low u in-list .0)))
 
-    pub mergeable : Mergeable c x y 0 (p .list) (q .list)
+    pub mergeable : Mergeable gap c x y 0 (p .list) (q .list)
     mergeable =
         let long = older-range .long in
         let some = older-range .some in
@@ -97,22 +98,22 @@ module _ (levels c : List ℕ) (x y lo mid hi : ℕ) (l k : List Recorded) (p : 
         }
 
     -- What the records of both lists have, those of the merged list have.
-    merged-all : (d : List ℕ) (m : Merged c d x y 0 (p .list) (q .list)) (P : ℕ → Type 0) → Sure P → All P (p .list) → All P (q .list) → All P (m .list)
+    merged-all : (d : List ℕ) (m : Merged gap c d x y 0 (p .list) (q .list)) (P : ℕ → Type 0) → Sure P → All P (p .list) → All P (q .list) → All P (m .list)
     merged-all d m P sure older newer =
         all-of P sure (m .list) (λ u out. m .records u (away-from P u (p .list) out older) (away-from P u (q .list) out newer))
 
-    kept-levels : (d : List ℕ) → Merged c d x y 0 (p .list) (q .list) → (low high : ℕ) (rs : List ℕ) → 1 ≤ low → All (λ u. (low ≤ u) × (u < high)) rs → All (λ u. level c u ≡ getD levels (u - 1) 0) rs → All (λ u. level d u ≡ getD levels (u - 1) 0) rs
+    kept-levels : (d : List ℕ) → Merged gap c d x y 0 (p .list) (q .list) → (low high : ℕ) (rs : List ℕ) → 1 ≤ low → All (λ u. (low ≤ u) × (u < high)) rs → All (λ u. level c u ≡ getD levels (u - 1) 0) rs → All (λ u. level d u ≡ getD levels (u - 1) 0) rs
     kept-levels d m low high rs some inside levels-are =
         all-both rs (λ u i e. let from = i .0 in m .level-kept u (λ none. omega arith) ∙ e) inside levels-are
 
-    pub merged-part : (d : List ℕ) → Merged c d x y 0 (p .list) (q .list) → Part levels d 0 lo hi (mergeRecorded 0 l k)
+    pub merged-part : (d : List ℕ) → Merged gap c d x y 0 (p .list) (q .list) → Part levels d 0 lo hi (mergeRecorded gap l k)
     merged-part d m =
         let first = older-range .upward in
         let second = newer-range .upward in
         record {
           list = m .list;
           built = m .built;
-          holds = m .holds ∙ ap₂ (mergeRecorded 0) (p .holds) (q .holds);
+          holds = m .holds ∙ ap₂ (mergeRecorded gap) (p .holds) (q .holds);
           inside =
               merged-all d m (λ u. (lo ≤ u) × (u < hi)) (inside-sure lo hi)
               (all-map (p .list) (λ u i. let to = i .1 in (i .0, omega arith)) (p .inside))
@@ -124,7 +125,7 @@ module _ (levels c : List ℕ) (x y lo mid hi : ℕ) (l k : List Recorded) (p : 
         }
 
 -- The join, call by call.
-module _ (levels a : List ℕ) (place lo mid hi : ℕ) (l k : List Recorded) (s t : Bool) (g : Joinable levels a place lo mid hi l k s t) where
+module _ (gap : ℕ) (narrow : gap ≤ mostRib) (levels a : List ℕ) (place lo mid hi : ℕ) (l k : List Recorded) (s t : Bool) (g : Joinable levels a place lo mid hi l k s t) where
   abbrev older-head : ℕ
   older-head = headOf place
 
@@ -205,15 +206,15 @@ module _ (levels a : List ℕ) (place lo mid hi : ℕ) (l k : List Recorded) (s 
           let again = h .length-kept in
           record { long = omega arith; some = r .some; upward = r .upward; most = r .most }
 
-      pub join-mergeable : Mergeable c x y 0 (older-part .list) (h .part .list)
+      pub join-mergeable : Mergeable gap c x y 0 (older-part .list) (h .part .list)
       join-mergeable =
-          mergeable levels c x y lo mid hi (turnedIf s l) (turnedIf t k) older-part (h .part) (ranged-now lo mid (g .older-range)) (ranged-now mid hi (g .newer-range)) (g .older-suits) (g .newer-suits) x-high y-high x-y
+          mergeable gap levels c x y lo mid hi (turnedIf s l) (turnedIf t k) older-part (h .part) narrow (ranged-now lo mid (g .older-range)) (ranged-now mid hi (g .newer-range)) (g .older-suits) (g .newer-suits) x-high y-high x-y
 
       -- The merge stands at record 0, and is copied to the older part's head.
-      module _ (d : List ℕ) (m : Merged c d x y 0 (older-part .list) (h .part .list)) (e : List ℕ) (copied : Copied d 0 older-head e) where
-        root : Part levels d 0 lo hi (mergeRecorded 0 (turnedIf s l) (turnedIf t k))
+      module _ (d : List ℕ) (m : Merged gap c d x y 0 (older-part .list) (h .part .list)) (e : List ℕ) (copied : Copied d 0 older-head e) where
+        root : Part levels d 0 lo hi (mergeRecorded gap (turnedIf s l) (turnedIf t k))
         root =
-            merged-part levels c x y lo mid hi (turnedIf s l) (turnedIf t k) older-part (h .part) (ranged-now lo mid (g .older-range)) (ranged-now mid hi (g .newer-range)) (g .older-suits) (g .newer-suits) x-high y-high x-y d m
+            merged-part gap levels c x y lo mid hi (turnedIf s l) (turnedIf t k) older-part (h .part) narrow (ranged-now lo mid (g .older-range)) (ranged-now mid hi (g .newer-range)) (g .older-suits) (g .newer-suits) x-high y-high x-y d m
 
         same-all : (z : ℕ) → 1 ≤ z → (olderTurned ≡ z → ⊥) → (newerTurned ≡ z → ⊥) → (older-head ≡ z → ⊥) → (newer-head ≡ z → ⊥) → ((lo ≤ z) × (z < mid) → ⊥) → ((mid ≤ z) × (z < hi) → ⊥) → Same a e z
         same-all z some p q r w off-older off-newer =
@@ -224,7 +225,7 @@ module _ (levels a : List ℕ) (place lo mid hi : ℕ) (l k : List Recorded) (s 
             (away-out mid hi z (h .part .list) off-newer (h .part .inside)))
             (copied .outside z (λ u. r (sym u)))))
 
-        pub joined : Joined levels a e place lo mid hi l k s t
+        pub joined : Joined gap levels a e place lo mid hi l k s t
         joined =
             let low = g .low-place in
             let most = g .newer-range .most in
@@ -238,7 +239,7 @@ module _ (levels a : List ℕ) (place lo mid hi : ℕ) (l k : List Recorded) (s 
             record {
               length-kept = copied .length-kept ∙ l3 ∙ l2 ∙ l1;
               part =
-                  part-copied levels d e 0 older-head lo hi (mergeRecorded 0 (turnedIf s l) (turnedIf t k)) root (omega arith)
+                  part-copied levels d e 0 older-head lo hi (mergeRecorded gap (turnedIf s l) (turnedIf t k)) root (omega arith)
                   (λ i. let w = i .1 in omega arith) copied;
               outside = λ z some. (
                 λ under.
@@ -260,31 +261,31 @@ abbrev Facing : (a b : List ℕ) (h spare : ℕ) (t : Bool) (r : ℕ) → Type 0
 Facing a b h spare t r =
     (levels : List ℕ) (lo hi : ℕ) (l : List Recorded) → Turns levels a h spare lo hi l → Faces levels a b h spare lo hi l t r
 
-module _ (a : List ℕ) (place : ℕ) (s t : Bool) where
+module _ (gap : ℕ) (narrow : gap ≤ mostRib) (a : List ℕ) (place : ℕ) (s t : Bool) where
   pub join-older : Ready a place s t → (levels : List ℕ) × (lo : ℕ) × (hi : ℕ) × (l : List Recorded) × Turns levels a (headOf place) olderTurned lo hi l
   join-older p =
-      (p .0, p .1, p .2, p .4, older-turns (p .0) a place (p .1) (p .2) (p .3) (p .4) (p .5) s t (p .6))
+      (p .0, p .1, p .2, p .4, older-turns gap narrow (p .0) a place (p .1) (p .2) (p .3) (p .4) (p .5) s t (p .6))
 
   module _ (b : List ℕ) (x : ℕ) (f : Facing a b (headOf place) olderTurned s x) where
     abbrev older-faces : (levels : List ℕ) (lo mid hi : ℕ) (l k : List Recorded) → Joinable levels a place lo mid hi l k s t → Faces levels a b (headOf place) olderTurned lo mid l s x
-    older-faces levels lo mid hi l k g = f levels lo mid l (older-turns levels a place lo mid hi l k s t g)
+    older-faces levels lo mid hi l k g = f levels lo mid l (older-turns gap narrow levels a place lo mid hi l k s t g)
 
     pub join-newer : Ready a place s t → (levels : List ℕ) × (lo : ℕ) × (hi : ℕ) × (l : List Recorded) × Turns levels b (headOf (place + 1)) newerTurned lo hi l
     join-newer p =
-        (p .0, p .2, p .3, p .5, newer-turns (p .0) a place (p .1) (p .2) (p .3) (p .4) (p .5) s t (p .6) b x (older-faces (p .0) (p .1) (p .2) (p .3) (p .4) (p .5) (p .6)))
+        (p .0, p .2, p .3, p .5, newer-turns gap narrow (p .0) a place (p .1) (p .2) (p .3) (p .4) (p .5) s t (p .6) b x (older-faces (p .0) (p .1) (p .2) (p .3) (p .4) (p .5) (p .6)))
 
     module _ (c : List ℕ) (y : ℕ) (h : Facing b c (headOf (place + 1)) newerTurned t y) where
       abbrev newer-faces : (levels : List ℕ) (lo mid hi : ℕ) (l k : List Recorded) → Joinable levels a place lo mid hi l k s t → Faces levels b c (headOf (place + 1)) newerTurned mid hi k t y
       newer-faces levels lo mid hi l k g =
-          h levels mid hi k (newer-turns levels a place lo mid hi l k s t g b x (older-faces levels lo mid hi l k g))
+          h levels mid hi k (newer-turns gap narrow levels a place lo mid hi l k s t g b x (older-faces levels lo mid hi l k g))
 
-      pub join-merges : Ready a place s t → (xs : List ℕ) × (ys : List ℕ) × Mergeable c x y 0 xs ys
+      pub join-merges : Ready a place s t → (xs : List ℕ) × (ys : List ℕ) × Mergeable gap c x y 0 xs ys
       join-merges p =
-          (_, _, join-mergeable (p .0) a place (p .1) (p .2) (p .3) (p .4) (p .5) s t (p .6) b x (older-faces (p .0) (p .1) (p .2) (p .3) (p .4) (p .5) (p .6)) c y (newer-faces (p .0) (p .1) (p .2) (p .3) (p .4) (p .5) (p .6)))
+          (_, _, join-mergeable gap narrow (p .0) a place (p .1) (p .2) (p .3) (p .4) (p .5) s t (p .6) b x (older-faces (p .0) (p .1) (p .2) (p .3) (p .4) (p .5) (p .6)) c y (newer-faces (p .0) (p .1) (p .2) (p .3) (p .4) (p .5) (p .6)))
 
-      module _ (d : List ℕ) (m : (xs ys : List ℕ) → Mergeable c x y 0 xs ys → Merged c d x y 0 xs ys) where
-        pub join-done : (e : List ℕ) → Copied d 0 (headOf place) e → (levels : List ℕ) (lo mid hi : ℕ) (l k : List Recorded) → Joinable levels a place lo mid hi l k s t → Joined levels a e place lo mid hi l k s t
+      module _ (d : List ℕ) (m : (xs ys : List ℕ) → Mergeable gap c x y 0 xs ys → Merged gap c d x y 0 xs ys) where
+        pub join-done : (e : List ℕ) → Copied d 0 (headOf place) e → (levels : List ℕ) (lo mid hi : ℕ) (l k : List Recorded) → Joinable levels a place lo mid hi l k s t → Joined gap levels a e place lo mid hi l k s t
         join-done e copied levels lo mid hi l k g =
             let f₁ = older-faces levels lo mid hi l k g in
             let h₁ = newer-faces levels lo mid hi l k g in
-            joined levels a place lo mid hi l k s t g b x f₁ c y h₁ d (m _ _ (join-mergeable levels a place lo mid hi l k s t g b x f₁ c y h₁)) e copied
+            joined gap narrow levels a place lo mid hi l k s t g b x f₁ c y h₁ d (m _ _ (join-mergeable gap narrow levels a place lo mid hi l k s t g b x f₁ c y h₁)) e copied

@@ -66,9 +66,9 @@ module _ (levels a b : List ℕ) (h done : ℕ) (lv : List ℕ) (s : List Item) 
   unfolding recordsOf
   loaded-levels = places-levels levels b lv done (length s) own (listPlaces s) (places-low s) (d .level-is)
 
-  pub loaded-part : Part levels b h (done + 1) (done + 1 + length s) (partRecorded 0 (done + 1) (gauge s))
+  pub loaded-part : (gap : ℕ) → Part levels b h (done + 1) (done + 1 + length s) (partRecorded gap (done + 1) (gauge s))
   unfolding partRecorded
-  loaded-part =
+  loaded-part gap =
       record {
         list = recordsOf (done + 1) s;
         built = d .built;

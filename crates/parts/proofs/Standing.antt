@@ -44,21 +44,21 @@ use Rattle.parts.proofs.PartStack.{parts-some, parts-total, parts-frame
 use Rattle.parts.proofs.LoadedPart.{records-inside, loaded-part}
 use Rattle.parts.proofs.FacingLists.{faces-suit, cut-part, cut-sizes, cut-kind}
 
-pub record Standing (file levels a₀ a kinds : List ℕ) (at parts done : ℕ) : Type 0 where
-  pub ready : Buildable file levels a₀
+pub record Standing (file levels : List ℕ) (rib : ℕ) (a₀ a kinds : List ℕ) (at parts done : ℕ) : Type 0 where
+  pub ready : Buildable file levels rib a₀
   pub stack : List Tree
   pub walked : Counted file (ready .tree) at stack parts
   pub records : done ≤ 512
   pub length-kept : length a ≡ length a₀
   pub kinds-held : Column kindOf kinds stack
-  pub stands : Parts levels a stack (done + 1)
+  pub stands : Parts rib levels a stack (done + 1)
 
 -- A taken file has its header.
-pub file-headed : (file levels a : List ℕ) → Buildable file levels a → firstEntry ≤ length file
-file-headed file levels a ready = counted-start file (ready .tree) (ready .face) .walk .inside
+pub file-headed : (file levels : List ℕ) (rib : ℕ) (a : List ℕ) → Buildable file levels rib a → firstEntry ≤ length file
+file-headed file levels rib a ready = counted-start file (ready .tree) (ready .face) .walk .inside
 
-pub standing-start : (file levels a kinds : List ℕ) → Buildable file levels a → length kinds ≡ 64 → Standing file levels a a kinds firstEntry 0 0
-standing-start file levels a kinds ready long =
+pub standing-start : (file levels : List ℕ) (rib : ℕ) (a kinds : List ℕ) → Buildable file levels rib a → length kinds ≡ 64 → Standing file levels rib a a kinds firstEntry 0 0
+standing-start file levels rib a kinds ready long =
     record {
       ready = ready;
       stack = [];
@@ -69,7 +69,7 @@ standing-start file levels a kinds ready long =
       stands = refl;
     }
 
-module _ (file levels a₀ a kinds : List ℕ) (at parts done : ℕ) (k : Standing file levels a₀ a kinds at parts done) where
+module _ (file levels : List ℕ) (rib : ℕ) (a₀ a kinds : List ℕ) (at parts done : ℕ) (k : Standing file levels rib a₀ a kinds at parts done) where
   abbrev face : Tree
   face = k .ready .tree
 
@@ -102,7 +102,7 @@ module _ (file levels a₀ a kinds : List ℕ) (at parts done : ℕ) (k : Standi
           let whole = walk-sizes file face (g .next) stack (here .walk) in
           let both = length-append (flat sizesOf (k .stack)) sizes in
           let many = in-length (g .count) bytes in
-          let total = parts-total levels a (k .stack) (done + 1) (k .stands) in
+          let total = parts-total rib levels a (k .stack) (done + 1) (k .stands) in
           let all = k .ready .as-many in
           omega arith
 
@@ -165,24 +165,24 @@ module _ (file levels a₀ a kinds : List ℕ) (at parts done : ℕ) (k : Standi
             let many = in-length (g .count) bytes in
             away-out (done + 1) (done + 1 + length sizes) x loaded (λ i. let less = i .1 in out (i .0, omega arith)) (records-inside (done + 1) sizes)
 
-        below : Parts levels b (k .stack) (done + 1)
+        below : Parts rib levels b (k .stack) (done + 1)
         below =
             let room = gauge-room in
             let records = records-left in
             let c = k .walked .count in
-            parts-frame levels a b (k .stack) (done + 1) (d .long) (omega arith)
+            parts-frame rib levels a b (k .stack) (done + 1) (d .long) (omega arith)
             (λ x u w. d .outside x (λ e. omega arith) (away x (λ i. let v = i .0 in omega arith)))
             (λ i less. d .outside (headOf i) (λ e. omega arith) (away (headOf i) (λ i. let v = i .1 in omega arith)))
             (k .stands)
 
-        on-top : Part levels b (headOf (length (k .stack))) (done + 1) (done + g .count + 1) (partRecorded 0 (done + 1) (gauge sizes))
+        on-top : Part levels b (headOf (length (k .stack))) (done + 1) (done + g .count + 1) (partRecorded rib (done + 1) (gauge sizes))
         on-top =
             let head : firstHead + parts ≡ headOf (length (k .stack)) = ap (λ (i : ℕ). firstHead + i) (sym (k .walked .count)) in
             let many = in-length (g .count) bytes in
             let end : done + 1 + length sizes ≡ done + g .count + 1 = omega arith in
-            rw (← head, ← end) (loaded-part levels a b (firstHead + parts) done own sizes (λ i less. own-at i (omega arith)) d)
+            rw (← head, ← end) (loaded-part levels a b (firstHead + parts) done own sizes (λ i less. own-at i (omega arith)) d rib)
 
-        pub standing-gauge : (l : List ℕ) → l ≡ set kinds parts 0x01 → Standing file levels a₀ b l (g .next) (parts + 1) (done + g .count)
+        pub standing-gauge : (l : List ℕ) → l ≡ set kinds parts 0x01 → Standing file levels rib a₀ b l (g .next) (parts + 1) (done + g .count)
         standing-gauge l stored =
             let many = in-length (g .count) bytes in
             record {
@@ -223,8 +223,8 @@ module _ (file levels a₀ a kinds : List ℕ) (at parts done : ℕ) (k : Standi
       newer-kind : getD kinds (parts - 2 + 1) 0 ≡ kindOf newer
       newer-kind = column-newer kindOf kinds (k .stack) parts (k .walked .count) (k .kinds-held) older newer rest (joining .two)
 
-      stand : Parts levels a (newer ∷ older ∷ rest) (done + 1)
-      stand = subst (λ (s : List Tree). Parts levels a s (done + 1)) (joining .two) (k .stands)
+      stand : Parts rib levels a (newer ∷ older ∷ rest) (done + 1)
+      stand = subst (λ (s : List Tree). Parts rib levels a s (done + 1)) (joining .two) (k .stands)
 
       abbrev mid : ℕ
       mid = stand .0
@@ -248,10 +248,10 @@ module _ (file levels a₀ a kinds : List ℕ) (at parts done : ℕ) (k : Standi
         newer-across : across (kindOf newer) kind ≡ t
         newer-across = sym (t-is ∙ ap (λ (x : ℕ). across x kind) newer-kind)
 
-        joinable : Joinable levels a (parts - 2) lo mid (done + 1) (partRecorded 0 lo older) (partRecorded 0 mid newer) s t
+        joinable : Joinable levels a (parts - 2) lo mid (done + 1) (partRecorded rib lo older) (partRecorded rib mid newer) s t
         joinable =
             let long = standing-long in
-            let some = parts-some levels a rest lo (stand .3 .3) in
+            let some = parts-some rib levels a rest lo (stand .3 .3) in
             let few = k .walked .few in
             let enough = join-parts in
             let records = k .records in
@@ -260,40 +260,40 @@ module _ (file levels a₀ a kinds : List ℕ) (at parts done : ℕ) (k : Standi
             let second = stand .1 in
             let x = depth-few older in
             let y = depth-few newer in
-            let u = part-few 0 lo older (good .1) in
-            let v = part-few 0 mid newer (good .0) in
+            let u = part-few rib lo older (good .1) in
+            let v = part-few rib mid newer (good .0) in
             record {
               low-place = omega arith;
               older-range = record { long = long; some = some; upward = omega arith; most = omega arith };
               newer-range = record { long = long; some = omega arith; upward = omega arith; most = omega arith };
-              older = subst (λ (i : ℕ). Part levels a (headOf i) lo mid (partRecorded 0 lo older)) (sym below-two) (stand .3 .2);
+              older = subst (λ (i : ℕ). Part levels a (headOf i) lo mid (partRecorded rib lo older)) (sym below-two) (stand .3 .2);
               newer =
-                  subst (λ (i : ℕ). Part levels a (headOf i) mid (done + 1) (partRecorded 0 mid newer)) (sym (add-one (parts - 2) ∙ ap suc below-two))
+                  subst (λ (i : ℕ). Part levels a (headOf i) mid (done + 1) (partRecorded rib mid newer)) (sym (add-one (parts - 2) ∙ ap suc below-two))
                   (stand .2);
               older-few = omega arith;
               newer-few = omega arith;
               older-suits =
-                  subst (λ (b : Bool). Suits (turnedIf b (partRecorded 0 lo older))) older-across
-                  (faces-suit kind (joining .cut) cut lo older (good .1) (omega arith) (omega arith));
+                  subst (λ (b : Bool). Suits (turnedIf b (partRecorded rib lo older))) older-across
+                  (faces-suit rib kind (joining .cut) (k .ready .narrow) cut lo older (good .1) (omega arith) (omega arith));
               newer-suits =
-                  subst (λ (b : Bool). Suits (turnedIf b (partRecorded 0 mid newer))) newer-across
-                  (faces-suit kind (joining .cut) cut mid newer (good .0) (omega arith) (omega arith));
+                  subst (λ (b : Bool). Suits (turnedIf b (partRecorded rib mid newer))) newer-across
+                  (faces-suit rib kind (joining .cut) (k .ready .narrow) cut mid newer (good .0) (omega arith) (omega arith));
             }
 
         pub join-ready : (lv : List ℕ) × (from : ℕ) × (middle : ℕ) × (to : ℕ) × (l : List Recorded) × (r : List Recorded) × Joinable lv a (parts - 2) from middle to l r s t
-        join-ready = (levels, lo, mid, done + 1, partRecorded 0 lo older, partRecorded 0 mid newer, joinable)
+        join-ready = (levels, lo, mid, done + 1, partRecorded rib lo older, partRecorded rib mid newer, joinable)
 
         -- The parts below stand as they did, and the join on them.
-        module _ (b : List ℕ) (join : (lv : List ℕ) (from middle to : ℕ) (u v : List Recorded) → Joinable lv a (parts - 2) from middle to u v s t → Joined lv a b (parts - 2) from middle to u v s t) where
-          done-join : Joined levels a b (parts - 2) lo mid (done + 1) (partRecorded 0 lo older) (partRecorded 0 mid newer) s t
-          done-join = join levels lo mid (done + 1) (partRecorded 0 lo older) (partRecorded 0 mid newer) joinable
+        module _ (b : List ℕ) (join : (lv : List ℕ) (from middle to : ℕ) (u v : List Recorded) → Joinable lv a (parts - 2) from middle to u v s t → Joined rib lv a b (parts - 2) from middle to u v s t) where
+          done-join : Joined rib levels a b (parts - 2) lo mid (done + 1) (partRecorded rib lo older) (partRecorded rib mid newer) s t
+          done-join = join levels lo mid (done + 1) (partRecorded rib lo older) (partRecorded rib mid newer) joinable
 
-          joined-list : mergeRecorded 0 (turnedIf s (partRecorded 0 lo older)) (turnedIf t (partRecorded 0 mid newer)) ≡ partRecorded 0 lo (joining .cut older newer)
+          joined-list : mergeRecorded rib (turnedIf s (partRecorded rib lo older)) (turnedIf t (partRecorded rib mid newer)) ≡ partRecorded rib lo (joining .cut older newer)
           joined-list =
-              ap₂ (mergeRecorded 0) (ap (λ (c : Bool). turnedIf c (partRecorded 0 lo older)) (sym older-across)) (ap (λ (c : Bool). turnedIf c (partRecorded 0 mid newer)) (sym newer-across))
-              ∙ cut-part kind (joining .cut) cut lo mid older newer (stand .3 .1)
+              ap₂ (mergeRecorded rib) (ap (λ (c : Bool). turnedIf c (partRecorded rib lo older)) (sym older-across)) (ap (λ (c : Bool). turnedIf c (partRecorded rib mid newer)) (sym newer-across))
+              ∙ cut-part rib kind (joining .cut) cut lo mid older newer (stand .3 .1)
 
-          join-below : Parts levels b rest lo
+          join-below : Parts rib levels b rest lo
           join-below =
               let few = k .walked .few in
               let enough = join-parts in
@@ -301,17 +301,17 @@ module _ (file levels a₀ a kinds : List ℕ) (at parts done : ℕ) (k : Standi
               let first = stand .3 .1 in
               let second = stand .1 in
               let n = below-two in
-              parts-frame levels a b rest lo (done-join .length-kept) (omega arith)
+              parts-frame rib levels a b rest lo (done-join .length-kept) (omega arith)
               (λ x u v. done-join .outside x u .0 v)
               (λ i less. done-join .outside (headOf i) (omega arith) .1 (omega arith) (omega arith))
               (stand .3 .3)
 
-          join-on-top : Part levels b (headOf (length rest)) lo (done + 1) (partRecorded 0 lo (joining .cut older newer))
+          join-on-top : Part levels b (headOf (length rest)) lo (done + 1) (partRecorded rib lo (joining .cut older newer))
           join-on-top =
-              subst (λ (i : ℕ). Part levels b (headOf i) lo (done + 1) (partRecorded 0 lo (joining .cut older newer))) below-two
+              subst (λ (i : ℕ). Part levels b (headOf i) lo (done + 1) (partRecorded rib lo (joining .cut older newer))) below-two
               (subst (λ (z : List Recorded). Part levels b (headOf (parts - 2)) lo (done + 1) z) joined-list (done-join .part))
 
-          pub standing-join : (l : List ℕ) → l ≡ set kinds (parts - 2) kind → Standing file levels a₀ b l behind (parts - 1) done
+          pub standing-join : (l : List ℕ) → l ≡ set kinds (parts - 2) kind → Standing file levels rib a₀ b l behind (parts - 1) done
           standing-join l stored =
               let first = stand .3 .1 in
               let second = stand .1 in
@@ -332,19 +332,19 @@ module _ (file levels a₀ a kinds : List ℕ) (at parts done : ℕ) (k : Standi
     last-stack : k .stack ≡ face ∷ []
     last-stack = walk-end file face at (k .stack) (k .walked .walk) over
 
-    root : Parts levels a (face ∷ []) (done + 1)
-    root = subst (λ (s : List Tree). Parts levels a s (done + 1)) last-stack (k .stands)
+    root : Parts rib levels a (face ∷ []) (done + 1)
+    root = subst (λ (s : List Tree). Parts rib levels a s (done + 1)) last-stack (k .stands)
 
-    pub standing-whole : (b : List ℕ) (kind : ℕ) → Copied a firstHead 0 b → kind ≡ getD kinds 0 0 → (t : Tree) → faceOf file ≡ taken t → Whole file levels a₀ b kind t
+    pub standing-whole : (b : List ℕ) (kind : ℕ) → Copied a firstHead 0 b → kind ≡ getD kinds 0 0 → (t : Tree) → faceOf file ≡ taken t → Whole file levels rib a₀ b kind t
     standing-whole b kind c kind-is t e =
         let same = walk-face file face at (k .stack) (k .walked .walk) t e in
         let from : root .0 ≡ 1 = root .3 in
         let to : done + 1 ≡ 1 + sizeCount face = root .1 ∙ ap (λ (x : ℕ). x + sizeCount face) from in
-        let here : Part levels a firstHead 1 (1 + sizeCount face) (partRecorded 0 1 face) = subst (λ (x : ℕ). Part levels a firstHead 1 x (partRecorded 0 1 face)) to (subst (λ (x : ℕ). Part levels a firstHead x (done + 1) (partRecorded 0 x face)) from (root .2)) in
+        let here : Part levels a firstHead 1 (1 + sizeCount face) (partRecorded rib 1 face) = subst (λ (x : ℕ). Part levels a firstHead 1 x (partRecorded rib 1 face)) to (subst (λ (x : ℕ). Part levels a firstHead x (done + 1) (partRecorded rib x face)) from (root .2)) in
         let holds = subst (λ (s : List Tree). Column kindOf kinds s) last-stack (k .kinds-held) in
-        subst (λ (x : Tree). Whole file levels a₀ b kind x) same
+        subst (λ (x : Tree). Whole file levels rib a₀ b kind x) same
         (record {
           length-kept = c .length-kept ∙ k .length-kept;
           kind-is = kind-is ∙ holds .held .0;
-          part = part-copied levels a b firstHead 0 1 (1 + sizeCount face) (partRecorded 0 1 face) here (let long = standing-long in omega arith) (λ i. let w = i .0 in omega arith) c;
+          part = part-copied levels a b firstHead 0 1 (1 + sizeCount face) (partRecorded rib 1 face) here (let long = standing-long in omega arith) (λ i. let w = i .0 in omega arith) c;
         })

@@ -16,11 +16,12 @@ use loading::load::load;
 use useful::order::in_order;
 use useful::order::order;
 
-// Builds the list of the whole face at record 0, each record with its lent level, and answers the kind of the face's
-// last entry. The parts that wait for their join stand on a stack: the heads of their lists, and their kinds.
-pub fn build(file: &[u8], levels: &[u8], arena: &mut [u32]) -> u8
-    requires { ⌜ Buildable (now file) (now levels) (now arena) ⌝ }
-    ensures { λ kind. ⌜ ((t : Tree) → faceOf (now (file .entry)) ≡ taken t → Whole (now (file .entry)) (now (levels .entry)) (now (arena .entry)) (now (arena .exit)) kind t) ⌝ }
+// Builds the list of the whole face at record 0, with a rib at each join and each record with its lent level, and
+// answers the kind of the face's last entry. The parts that wait for their join stand on a stack: the heads of their
+// lists, and their kinds.
+pub fn build(file: &[u8], levels: &[u8], rib: u32, arena: &mut [u32]) -> u8
+    requires { ⌜ Buildable (now file) (now levels) rib (now arena) ⌝ }
+    ensures { λ kind. ⌜ ((t : Tree) → faceOf (now (file .entry)) ≡ taken t → Whole (now (file .entry)) (now (levels .entry)) rib (now (arena .entry)) (now (arena .exit)) kind t) ⌝ }
 {
     let known = asks_order(file);
     let mut kinds = [0u8; 64];
@@ -49,7 +50,7 @@ pub fn build(file: &[u8], levels: &[u8], arena: &mut [u32]) -> u8
                 let older = parts - 2;
                 let first = entries::runs_across(kinds[older], kind);
                 let second = entries::runs_across(kinds[older + 1], kind);
-                join(arena, older, first, second);
+                join(arena, older, first, second, rib);
                 kinds[older] = kind;
                 parts -= 1;
                 at = next;

@@ -1,6 +1,7 @@
 // The join of two parts.
 ghost use mathlib.Core.List.{List};
-ghost use Prim.Native.Nat.{ℕ};
+ghost use Prim.Native.Nat.{ℕ, _≤_};
+ghost use Rattle.checks.specs.Limits.{mostRib};
 ghost use Rattle.slicing.specs.Recorded.{Recorded};
 ghost use Rattle.parts.specs.inside.Joining.{Turns, Faces, Joinable, Joined};
 use crate::heads::FIRST;
@@ -25,14 +26,15 @@ fn facing(arena: &mut [u32], head: usize, spare: usize, turned: bool) -> usize
     head
 }
 
-// Joins the part at a place of the stack and the one after it, each turned first where it runs the other way. The join
-// takes the older part's place.
-pub fn join(arena: &mut [u32], place: usize, older: bool, newer: bool)
+// Joins the part at a place of the stack and the one after it, with a rib between them, each turned first where it runs
+// the other way. The join takes the older part's place.
+pub fn join(arena: &mut [u32], place: usize, older: bool, newer: bool, rib: u32)
+    requires { ⌜ rib ≤ mostRib ⌝ }
     requires { ⌜ ((levels : List ℕ) × (lo : ℕ) × (mid : ℕ) × (hi : ℕ) × (l : List Recorded) × (k : List Recorded) × Joinable levels (now arena) place lo mid hi l k older newer) ⌝ }
-    ensures { λ _. ⌜ ((levels : List ℕ) (lo mid hi : ℕ) (l k : List Recorded) → Joinable levels (now (arena .entry)) place lo mid hi l k older newer → Joined levels (now (arena .entry)) (now (arena .exit)) place lo mid hi l k older newer) ⌝ }
+    ensures { λ _. ⌜ ((levels : List ℕ) (lo mid hi : ℕ) (l k : List Recorded) → Joinable levels (now (arena .entry)) place lo mid hi l k older newer → Joined rib levels (now (arena .entry)) (now (arena .exit)) place lo mid hi l k older newer) ⌝ }
 {
     let first = facing(arena, FIRST + place, OLDER_TURNED, older);
     let second = facing(arena, FIRST + (place + 1), NEWER_TURNED, newer);
-    merge(arena, first, second);
+    merge(arena, first, second, rib);
     copy_head(arena, 0, FIRST + place);
 }

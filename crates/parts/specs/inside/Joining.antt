@@ -49,8 +49,8 @@ pub record Joinable (levels a : List ℕ) (place lo mid hi : ℕ) (l k : List Re
   pub older-suits : Suits (turnedIf s l)
   pub newer-suits : Suits (turnedIf t k)
 
--- They were joined. Touched are the records of both, record 0 and heads that no part below them has.
-pub record Joined (levels a b : List ℕ) (place lo mid hi : ℕ) (l k : List Recorded) (s t : Bool) : Type 0 where
+-- They were joined, with a gap between them. Touched are the records of both, record 0 and heads that no part below them has.
+pub record Joined (gap : ℕ) (levels a b : List ℕ) (place lo mid hi : ℕ) (l k : List Recorded) (s t : Bool) : Type 0 where
   pub length-kept : length b ≡ length a
-  pub part : Part levels b (headOf place) lo hi (mergeRecorded 0 (turnedIf s l) (turnedIf t k))
+  pub part : Part levels b (headOf place) lo hi (mergeRecorded gap (turnedIf s l) (turnedIf t k))
   pub outside : (x : ℕ) → 1 ≤ x → (x < lo → Same a b x) × (firstHead ≤ x → x < headOf place → Same a b x)

@@ -3,7 +3,7 @@ use mathlib.Core.Path.{_≡_}
 use mathlib.Core.List.{List, [], _∷_, List·Memᴰ}
 use Prim.Native.Nat.{ℕ, suc, _+_, _-_, _≤_, _<_}
 use lib.ListN.{length, getD}
-use Rattle.checks.specs.Limits.{mostGauges, mostSizes}
+use Rattle.checks.specs.Limits.{mostGauges, mostSizes, mostOpening}
 use Rattle.slicing.specs.Good.{Ordered}
 use Rattle.slicing.specs.Tree.{Tree, sizeCount}
 use Rattle.slicing.specs.Recorded.{Recorded, items, partRecorded}
@@ -39,15 +39,15 @@ pub record Part (levels a : List ℕ) (h lo hi : ℕ) (l : List Recorded) : Type
   pub inside : All (λ x. (lo ≤ x) × (x < hi)) list
   pub level-is : All (λ x. level a x ≡ getD levels (x - 1) 0) list
 
--- A list that can be merged: ordered, with no number above 64 times 1,000, and not too long.
+-- A list that can be merged: ordered, with no number above what 64 gauges and the ribs between them come to, and not too long.
 pub record Suits (l : List Recorded) : Type 0 where
   pub ordered : Ordered (items l)
   pub some : (x : Recorded) → List·Memᴰ x l → 1 ≤ x .item .m
-  pub low : (x : Recorded) → List·Memᴰ x l → (x .item .m ≤ 64_000) × (x .item .p ≤ 64_000)
+  pub low : (x : Recorded) → List·Memᴰ x l → (x .item .m ≤ mostOpening) × (x .item .p ≤ mostOpening)
   pub few : length l ≤ mostSizes
 
 -- The parts of a stack, the newest first, have their heads and, one after the other, the records below hi.
-abbrev pub Parts : List ℕ → List ℕ → List Tree → ℕ → Type 0
-Parts levels a [] hi = hi ≡ 1
-Parts levels a (t ∷ stack) hi =
-    (lo : ℕ) × (hi ≡ lo + sizeCount t) × Part levels a (headOf (length stack)) lo hi (partRecorded 0 lo t) × Parts levels a stack lo
+abbrev pub Parts : ℕ → List ℕ → List ℕ → List Tree → ℕ → Type 0
+Parts gap levels a [] hi = hi ≡ 1
+Parts gap levels a (t ∷ stack) hi =
+    (lo : ℕ) × (hi ≡ lo + sizeCount t) × Part levels a (headOf (length stack)) lo hi (partRecorded gap lo t) × Parts gap levels a stack lo

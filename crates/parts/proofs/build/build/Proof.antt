@@ -12,10 +12,10 @@ use Rattle.parts.proofs.build.build.Statement.{statement}
 use Rattle.parts.proofs.build.build.Tie as tie
 
 abbrev Inv-loop : tie.InvT-loop
-Inv-loop file levels arena₀ known kinds₀ at₀ parts₀ size₀ arena kinds at parts size = Standing file levels arena₀ arena kinds at parts size
+Inv-loop file levels rib arena₀ known kinds₀ at₀ parts₀ size₀ arena kinds at parts size = Standing file levels rib arena₀ arena kinds at parts size
 
 abbrev μ-loop : tie.MeasureT-loop
-μ-loop file levels arena₀ known kinds₀ at₀ parts₀ size₀ arena kinds at parts size = length file - at
+μ-loop file levels rib arena₀ known kinds₀ at₀ parts₀ size₀ arena kinds at parts size = length file - at
 
 asks-order-requires : tie.Need-asks-order-requires Inv-loop μ-loop
 asks-order-requires c κs = search (needs, file-headed)
@@ -33,7 +33,7 @@ add-end : tie.Need-add-end Inv-loop μ-loop
 add-end c =
     let at-match = c .before .before in
     let at-entry = at-match .before .before in
-    let left = records-left _ _ _ _ _ _ _ _ (at-entry .before .before .loop .inv) _ (at-entry .entry-at .ensures) _ (at-match .g .given .1) in
+    let left = records-left _ _ _ _ _ _ _ _ _ (at-entry .before .before .loop .inv) _ (at-entry .entry-at .ensures) _ (at-match .g .given .1) in
     record { fits = omega arith }
 
 sub-sizes : tie.Need-sub-sizes Inv-loop μ-loop
@@ -58,14 +58,14 @@ in-order-requires : tie.Need-in-order-requires Inv-loop μ-loop
 in-order-requires c κs =
     let at-match = c .before .before .before .before in
     let at-entry = at-match .before .before in
-    let bytes = gauge-bytes _ _ _ _ _ _ _ _ (at-entry .before .before .loop .inv) _ (at-entry .entry-at .ensures) _ (at-match .g .given .1) in
+    let bytes = gauge-bytes _ _ _ _ _ _ _ _ _ (at-entry .before .before .loop .inv) _ (at-entry .entry-at .ensures) _ (at-match .g .given .1) in
     (bytes .some, bytes .few)
 
 order-requires : tie.Need-order-requires Inv-loop μ-loop
 order-requires c κs =
     let at-match = c .before .before .before .before .before .before in
     let at-entry = at-match .before .before in
-    gauge-bytes _ _ _ _ _ _ _ _ (at-entry .before .before .loop .inv) _ (at-entry .entry-at .ensures) _ (at-match .g .given .1)
+    gauge-bytes _ _ _ _ _ _ _ _ _ (at-entry .before .before .loop .inv) _ (at-entry .entry-at .ensures) _ (at-match .g .given .1)
 
 add-load : tie.Need-add-load Inv-loop μ-loop
 add-load c = search needs
@@ -84,8 +84,8 @@ load-requires c κs =
     let found = at-entry .entry-at .ensures in
     let is-gauge = at-match .g .given .1 in
     let asked = at-loop .before .asks-order .ensures in
-    let word = ⊎-elim (λ w. w .2 ∙ w .1 .ensures) (λ w. gauge-in-order _ _ _ _ _ _ _ _ standing _ found _ is-gauge _ asked (w .0 .left) _ (w .1 ∙ at-in-order .in-order .ensures)) (at-if .if1 .came) in
-    gauge-loads _ _ _ _ _ _ _ _ standing _ found _ is-gauge _ word
+    let word = ⊎-elim (λ w. w .2 ∙ w .1 .ensures) (λ w. gauge-in-order _ _ _ _ _ _ _ _ _ standing _ found _ is-gauge _ asked (w .0 .left) _ (w .1 ∙ at-in-order .in-order .ensures)) (at-if .if1 .came) in
+    gauge-loads _ _ _ _ _ _ _ _ _ standing _ found _ is-gauge _ word
 
 array-write-kinds : tie.Need-array-write-kinds Inv-loop μ-loop
 array-write-kinds c = search (needs, gauge-room)
@@ -124,7 +124,8 @@ join-requires : tie.Need-join-requires Inv-loop μ-loop
 join-requires c κs =
     let at-match = c .before .before .before .before in
     let at-entry = at-match .before .before in
-    join-ready _ _ _ _ _ _ _ _ (at-entry .before .before .loop .inv) _ (at-entry .entry-at .ensures) _ _ (at-match .kind .given .1) _ _ (c .before .before .runs-across .ensures) (c .before .runs-across2 .ensures)
+    let inv = at-entry .before .before .loop .inv in
+    (inv .ready .narrow, join-ready _ _ _ _ _ _ _ _ _ (at-entry .before .before .loop .inv) _ (at-entry .entry-at .ensures) _ _ (at-match .kind .given .1) _ _ (c .before .before .runs-across .ensures) (c .before .runs-across2 .ensures))
 
 array-write-kinds-2 : tie.Need-array-write-kinds-2 Inv-loop μ-loop
 array-write-kinds-2 c = search needs
@@ -140,7 +141,7 @@ loop-again-2 c = search (needs, standing-join)
 
 copy-head-requires : tie.Need-copy-head-requires Inv-loop μ-loop
 copy-head-requires c κs =
-    let long = standing-long _ _ _ _ _ _ _ _ (c .before .before .loop .inv) in
+    let long = standing-long _ _ _ _ _ _ _ _ _ (c .before .before .loop .inv) in
     (omega arith, omega arith)
 
 array-read-result : tie.Need-array-read-result Inv-loop μ-loop

@@ -10,7 +10,7 @@ add-facing c = search needs
 
 facing-requires : tie.Need-facing-requires
 facing-requires c κs =
-    join-older _ _ _ _ (c .before .before .pre)
+    join-older _ (c .before .before .pre .0) _ _ _ _ (c .before .before .pre .1)
 
 add-facing-2 : tie.Need-add-facing-2
 add-facing-2 c = search needs
@@ -20,14 +20,15 @@ add-facing-3 c = search needs
 
 facing-requires-2 : tie.Need-facing-requires-2
 facing-requires-2 c κs =
-    join-newer _ _ _ _ _ _ (c .before .before .before .facing .ensures) (c .before .before .before .before .before .before .pre)
+    let entry = c .before .before .before .before .before .before in
+    join-newer _ (entry .pre .0) _ _ _ _ _ _ (c .before .before .before .facing .ensures) (entry .pre .1)
 
 merge-requires : tie.Need-merge-requires
 merge-requires c κs =
     let at-facing2 = c .before .before .before in
     let at-facing = at-facing2 .before .before .before .before in
     let entry = at-facing .before .before .before in
-    join-merges _ _ _ _ _ _ (at-facing .facing .ensures) _ _ (at-facing2 .facing2 .ensures) (entry .pre)
+    join-merges _ (entry .pre .0) _ _ _ _ _ _ (at-facing .facing .ensures) _ _ (at-facing2 .facing2 .ensures) (entry .pre .1)
 
 add-copy-head : tie.Need-add-copy-head
 add-copy-head c = search needs
@@ -43,7 +44,8 @@ returns c =
     let at-merge = c .before .before .before .before .before .before in
     let at-facing2 = at-merge .before .before .before .before in
     let at-facing = at-facing2 .before .before .before .before in
-    join-done _ _ _ _ _ _ (at-facing .facing .ensures) _ _ (at-facing2 .facing2 .ensures) _ (at-merge .merge .ensures) _ (c .before .before .copy-head .ensures)
+    let entry = at-facing .before .before .before in
+    join-done _ (entry .pre .0) _ _ _ _ _ _ (at-facing .facing .ensures) _ _ (at-facing2 .facing2 .ensures) _ (at-merge .merge .ensures) _ (c .before .before .copy-head .ensures)
 
 pub join-spec : {M : Type 1} → statement M
 join-spec =
