@@ -1,6 +1,6 @@
--- One turn of the merge over two lists that are not empty: the first item is the larger m with the sum of the p, and each first item goes unless the other's m is larger.
+-- One turn of the merge over two lists that are not empty: the first item is the larger m with the sum of the p and the gap, and each first item goes unless the other's m is larger.
 -- It is the merge's own clause, by the three ways in which two m can stand.
-use mathlib.Core.Path.{_≡_, refl, ap, _∙_}
+use mathlib.Core.Path.{_≡_, refl, ap}
 use mathlib.Core.Bool.{Bool, true, false}
 use mathlib.Core.List.{List, [], _∷_}
 use Prim.Native.Nat.{ℕ, _+_, _≤_, _<_, max}
@@ -12,32 +12,30 @@ use Rattle.slicing.specs.Item.{Item, size}
 use Rattle.slicing.specs.Merge.{merge, sum}
 
 -- The merge ends with the second list.
-pub merge-nil : (l : List Item) → merge 0 l [] ≡ []
+pub merge-nil : (gap : ℕ) (l : List Item) → merge gap l [] ≡ []
 unfolding merge
-merge-nil [] = refl
-merge-nil (x ∷ l) = refl
+merge-nil gap [] = refl
+merge-nil gap (x ∷ l) = refl
 
-pub merge-turn : (x y : Item) (l k : List Item) (i j : ℕ) → (y .m ≤ x .m → i ≡ 1) → (x .m < y .m → i ≡ 0) → (x .m ≤ y .m → j ≡ 1) → (y .m < x .m → j ≡ 0)
-    → merge 0 (x ∷ l) (y ∷ k) ≡ size (max (x .m) (y .m)) (x .p + y .p) ∷ merge 0 (drop i (x ∷ l)) (drop j (y ∷ k))
+pub merge-turn : (gap : ℕ) (x y : Item) (l k : List Item) (i j : ℕ) → (y .m ≤ x .m → i ≡ 1) → (x .m < y .m → i ≡ 0) → (x .m ≤ y .m → j ≡ 1) → (y .m < x .m → j ≡ 0)
+    → merge gap (x ∷ l) (y ∷ k) ≡ size (max (x .m) (y .m)) (x .p + gap + y .p) ∷ merge gap (drop i (x ∷ l)) (drop j (y ∷ k))
 unfolding merge
-merge-turn x y l k i j xg xs yg ys = step (ltb (y .m) (x .m)) (eqb (x .m) (y .m)) refl refl
+merge-turn gap x y l k i j xg xs yg ys = step (ltb (y .m) (x .m)) (eqb (x .m) (y .m)) refl refl
   where
-    first : (m : ℕ) → m ≡ max (x .m) (y .m) → sum 0 m x y ≡ size (max (x .m) (y .m)) (x .p + y .p)
-    first m e =
-        ap (λ (n : ℕ). size n (x .p + 0 + y .p)) e
-        ∙ ap (λ (n : ℕ). size (max (x .m) (y .m)) n) (let same : x .p + 0 + y .p ≡ x .p + y .p = omega arith in same)
+    first : (m : ℕ) → m ≡ max (x .m) (y .m) → sum gap m x y ≡ size (max (x .m) (y .m)) (x .p + gap + y .p)
+    first m e = ap (λ (n : ℕ). size n (x .p + gap + y .p)) e
 
-    rest : (m n : ℕ) → i ≡ m → j ≡ n → merge 0 (drop m (x ∷ l)) (drop n (y ∷ k)) ≡ merge 0 (drop i (x ∷ l)) (drop j (y ∷ k))
+    rest : (m n : ℕ) → i ≡ m → j ≡ n → merge gap (drop m (x ∷ l)) (drop n (y ∷ k)) ≡ merge gap (drop i (x ∷ l)) (drop j (y ∷ k))
     rest m n e f = rw (e, f)
 
     step : (s t : Bool) → ltb (y .m) (x .m) ≡ s → eqb (x .m) (y .m) ≡ t
         → (elim s [
-          | true ↦ sum 0 (x .m) x y ∷ merge 0 l (y ∷ k)
+          | true ↦ sum gap (x .m) x y ∷ merge gap l (y ∷ k)
           | false ↦ elim t [
-            | true ↦ sum 0 (x .m) x y ∷ merge 0 l k
-            | false ↦ sum 0 (y .m) x y ∷ merge 0 (x ∷ l) k
+            | true ↦ sum gap (x .m) x y ∷ merge gap l k
+            | false ↦ sum gap (y .m) x y ∷ merge gap (x ∷ l) k
           ]
-        ]) ≡ size (max (x .m) (y .m)) (x .p + y .p) ∷ merge 0 (drop i (x ∷ l)) (drop j (y ∷ k))
+        ]) ≡ size (max (x .m) (y .m)) (x .p + gap + y .p) ∷ merge gap (drop i (x ∷ l)) (drop j (y ∷ k))
     step true t e f =
         let less = ltb-true (y .m) (x .m) e in
         cc (first (x .m) (omega arith), rest 1 0 (xg (omega arith)) (ys less))

@@ -11,32 +11,32 @@ use Rattle.packed.proofs.Merging.{Reads, Merging, merging-start, mergin
 use Rattle.packed.proofs.Places.{ReadAt, read-kept, at-more, at-out, at-between, at-reads}
 
 -- Both stretches have a place before them, and the places after them fit in a usize.
-pub within-both : (s : List ℕ) (a b : Stretch) (to : ℕ) → ((l : List Item) × (k : List Item) × Joinable s a b to l k) → to < 2 ^ 64 → Within a × Within b
-within-both s a b to pre fits =
+pub within-both : (gap : ℕ) (s : List ℕ) (a b : Stretch) (to : ℕ) → ((l : List Item) × (k : List Item) × Joinable gap s a b to l k) → to < 2 ^ 64 → Within a × Within b
+within-both gap s a b to pre fits =
     let older = pre .2 .older-before in
     let newer = pre .2 .newer-before in
     (record { after-first = pre .2 .older-after; fits = omega arith }, record { after-first = pre .2 .newer-after; fits = omega arith })
 
 -- After p and q items: the places of what is left.
-pub record Walking (s : List ℕ) (a b : Stretch) (to end stop : ℕ) (z : List ℕ) (i j at p q : ℕ) : Type 0 where
-  pub merging : Merging s a b to z p q at
+pub record Walking (gap : ℕ) (s : List ℕ) (a b : Stretch) (to end stop : ℕ) (z : List ℕ) (i j at p q : ℕ) : Type 0 where
+  pub merging : Merging gap s a b to z p q at
   pub older-at : AtItem a p i
   pub newer-at : AtItem b q j
   pub older-end : AtItem a (a .count) end
   pub newer-end : AtItem b (b .count) stop
 
-pub walking-start : (s : List ℕ) (a b : Stretch) (to end stop i j : ℕ) → ((l : List Item) × (k : List Item) × Joinable s a b to l k)
-    → AtItem a 0 i → AtItem b 0 j → AtItem a (a .count) end → AtItem b (b .count) stop → Walking s a b to end stop s i j to 0 0
-walking-start s a b to end stop i j pre older newer older-end newer-end =
-    record { merging = merging-start s a b to pre; older-at = older; newer-at = newer; older-end = older-end; newer-end = newer-end }
+pub walking-start : (gap : ℕ) (s : List ℕ) (a b : Stretch) (to end stop i j : ℕ) → ((l : List Item) × (k : List Item) × Joinable gap s a b to l k)
+    → AtItem a 0 i → AtItem b 0 j → AtItem a (a .count) end → AtItem b (b .count) stop → Walking gap s a b to end stop s i j to 0 0
+walking-start gap s a b to end stop i j pre older newer older-end newer-end =
+    record { merging = merging-start gap s a b to pre; older-at = older; newer-at = newer; older-end = older-end; newer-end = newer-end }
 
-module _ (s : List ℕ) (a b : Stretch) (to end stop : ℕ) (z : List ℕ) (i j at p q : ℕ) (h : Walking s a b to end stop z i j at p q) where
+module _ (gap : ℕ) (s : List ℕ) (a b : Stretch) (to end stop : ℕ) (z : List ℕ) (i j at p q : ℕ) (h : Walking gap s a b to end stop z i j at p q) where
   -- The ways out: either list at its end.
-  pub walking-older-out : i ≡ end → (l k : List Item) → Joinable s a b to l k → Joined s a b to l k z (at - to)
-  walking-older-out same = merging-older-out s a b to z p q at (h .merging) (at-out a p i (h .older-at) end (h .older-end) same)
+  pub walking-older-out : i ≡ end → (l k : List Item) → Joinable gap s a b to l k → Joined gap s a b to l k z (at - to)
+  walking-older-out same = merging-older-out gap s a b to z p q at (h .merging) (at-out a p i (h .older-at) end (h .older-end) same)
 
-  pub walking-newer-out : j ≡ stop → (l k : List Item) → Joinable s a b to l k → Joined s a b to l k z (at - to)
-  walking-newer-out same = merging-newer-out s a b to z p q at (h .merging) (at-out b q j (h .newer-at) stop (h .newer-end) same)
+  pub walking-newer-out : j ≡ stop → (l k : List Item) → Joinable gap s a b to l k → Joined gap s a b to l k z (at - to)
+  walking-newer-out same = merging-newer-out gap s a b to z p q at (h .merging) (at-out b q j (h .newer-at) stop (h .newer-end) same)
 
   -- Before its end, a list has an item left.
   pub older-more : (i ≡ end → ⊥) → p < a .count

@@ -64,18 +64,18 @@ fn after(at: usize, across: bool) -> usize
 }
 
 // Merges the lists of two stretches, each read as its stretch says, and writes the merge's items from the place `to`
-// on. Answers how many it wrote. The first item left of each list is held in x and y, and read once. An item of the
-// merge is the one of larger m with the other's p added.
-pub fn merge_lists(scratch: &mut [u32], a: Stretch, b: Stretch, to: usize) -> usize
-    requires { ⌜ ((l : List Item) × (k : List Item) × Joinable (now scratch) a b to l k) ⌝ }
-    ensures { λ r. ⌜ ((l k : List Item) → Joinable (now (scratch .entry)) a b to l k → Joined (now (scratch .entry)) a b to l k (now (scratch .exit)) r) ⌝ }
+// on. Answers how many it wrote. The first item left of each list is held in x and y, and read once; y has the rib in its
+// p. An item of the merge is the one of larger m with the other's p added.
+pub fn merge_lists(scratch: &mut [u32], a: Stretch, b: Stretch, rib: u32, to: usize) -> usize
+    requires { ⌜ ((l : List Item) × (k : List Item) × Joinable rib (now scratch) a b to l k) ⌝ }
+    ensures { λ r. ⌜ ((l k : List Item) → Joinable rib (now (scratch .entry)) a b to l k → Joined rib (now (scratch .entry)) a b to l k (now (scratch .exit)) r) ⌝ }
 {
     let mut i = first_of(a);
     let mut j = first_of(b);
     let end = end_of(a);
     let stop = end_of(b);
     let mut x = read_at(scratch, i, a.across);
-    let mut y = read_at(scratch, j, b.across);
+    let mut y = read_at(scratch, j, b.across) + rib;
     let mut at = to;
     loop {
         let m = m_of(x);
@@ -87,7 +87,7 @@ pub fn merge_lists(scratch: &mut [u32], a: Stretch, b: Stretch, to: usize) -> us
             if j == stop {
                 return at - to;
             }
-            y = read_at(scratch, j, b.across);
+            y = read_at(scratch, j, b.across) + rib;
         } else {
             scratch[at] = x + p_of(y);
             at += 1;
@@ -101,7 +101,7 @@ pub fn merge_lists(scratch: &mut [u32], a: Stretch, b: Stretch, to: usize) -> us
                 if j == stop {
                     return at - to;
                 }
-                y = read_at(scratch, j, b.across);
+                y = read_at(scratch, j, b.across) + rib;
             }
         }
     }

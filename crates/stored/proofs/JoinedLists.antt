@@ -1,26 +1,53 @@
--- Adding a join to the stored parts: its calls are ready, and what they leave is the join's list and its words in the table.
--- The two parts stand before it, and the merge is written after all lists.
+-- Adding a join to the stored parts: its calls are ready, and what they leave is the join's list and its words in the table, whichever of the two parts is merged first.
+-- The two parts stand before it, the merge is written after all lists, and the merge of the two exchanged is the same list.
 use mathlib.Core.Path.{_≡_, refl, sym, ap, ap₂, subst, _∙_}
 use mathlib.Core.Bool.{Bool}
-use mathlib.Core.List.{List}
+use mathlib.Core.Logic.{_⊎_, inl, inr, ⊎-elim}
+use mathlib.Core.List.{List, List·Memᴰ}
 use Prim.Native.Nat.{ℕ, _+_, _*_, _-_, _≤_, _<_}
 use native.Mathlib.Omega.{arith}
 use lib.ListN.{length, getD}
+use Rattle.checks.specs.Limits.{bufferWords}
 use Rattle.slicing.specs.Item.{Item}
 use Rattle.slicing.specs.Tree.{Tree, gaugeCount}
+use Rattle.slicing.specs.Good.{Good}
+use Rattle.slicing.specs.Merge.{merge}
 use Rattle.entries.specs.inside.Kinds.{kindOf, across}
-use Rattle.packed.specs.inside.Packed.{HasList}
+use Rattle.packed.specs.inside.Packed.{facing, HasList}
 use Rattle.packed.specs.inside.Joining.{mergeOf, Joinable, Joined}
 use Rattle.packed.specs.declared.merge.Stretch.{Stretch}
 use Rattle.packed.proofs.Merging.{sums-low}
 use Rattle.stored.specs.inside.Store.{ownShapes, Entry}
-use Rattle.stored.specs.inside.Filling.{entryAt, stretchOf, Added}
+use Rattle.stored.specs.inside.Filling.{entryAt, Between, stretchOf, Added}
 use Rattle.stored.specs.inside.Adding.{JoinRoom, JoinAdded}
 use Rattle.stored.proofs.EntryLaws.{entry-added}
-use Rattle.stored.proofs.OwnLists.{own-merge, own-low, own-filled, kind-low, cut-short}
+use Rattle.stored.proofs.OwnLists.{own-merge, own-exchanged, own-low, own-filled, kind-low, cut-short}
 
-abbrev pub Joins : List ℕ → ℕ → ℕ → ℕ → Type 0
-Joins s e to kind = (cut : Tree → Tree → Tree) × (a : Tree) × (b : Tree) × JoinRoom s e to kind cut a b
+abbrev pub Joins : ℕ → List ℕ → ℕ → ℕ → ℕ → Type 0
+Joins gap s e to kind = (cut : Tree → Tree → Tree) × (a : Tree) × (b : Tree) × JoinRoom gap s e to kind cut a b
+
+-- The parts i and j are the two parts of the join e, the newer or the older one first.
+abbrev pub TwoParts : ℕ → ℕ → ℕ → ℕ → Type 0
+TwoParts e rest i j = ((i ≡ e - 1) × (j ≡ e - 2 * rest)) ⊎ ((i ≡ e - 2 * rest) × (j ≡ e - 1))
+
+pub two-parts : (P Q : Type 0) (e rest i j : ℕ) → (P × (i ≡ e - 1) × (j ≡ e - 2 * rest)) ⊎ (Q × (i ≡ e - 2 * rest) × (j ≡ e - 1)) → TwoParts e rest i j
+two-parts P Q e rest i j = ⊎-elim (λ w. inl (w .1, w .2)) (λ w. inr (w .1, w .2))
+
+-- A part that a join takes.
+record Operand (gap : ℕ) (s : List ℕ) (to i : ℕ) (t : Tree) : Type 0 where
+  entry : Entry s i (kindOf t) (gaugeCount t) (ownShapes gap t)
+  between : Between gap s to i t
+  good : Good t
+
+-- Both of them, in the order in which they are merged: the merge is the list of the join.
+record Operands (gap : ℕ) (s : List ℕ) (to kind : ℕ) (joined : Tree) (i j : ℕ) : Type 0 where
+  first : Tree
+  second : Tree
+  first-is : Operand gap s to i first
+  second-is : Operand gap s to j second
+  few : gaugeCount first + gaugeCount second ≤ 64
+  items : to + (length (ownShapes gap first) + length (ownShapes gap second)) ≤ bufferWords
+  merge-is : merge gap (facing (across (kindOf first) kind) (ownShapes gap first)) (facing (across (kindOf second) kind) (ownShapes gap second)) ≡ ownShapes gap joined
 
 stretch-is : (f c f' c' : ℕ) (x x' : ℕ) (j : ℕ) → f ≡ f' → c ≡ c' → x ≡ x' → _≡_ {A = Stretch} (record { from = f; count = c; across = across x j }) (record { from = f'; count = c'; across = across x' j })
 stretch-is f c f' c' x x' j p q r =
@@ -34,134 +61,161 @@ read-stretch s e j f c x y b p q r t u =
     ap (λ (v : Bool). record { from = f; count = c; across = v }) u
     ∙ stretch-is f c (getD s (4 * e) 0) (getD s (4 * e + 1) 0) y (getD s (4 * e + 2) 0) j (p ∙ ap (λ (n : ℕ). getD s n 0) place) q (t ∙ r)
 
-module _ (s : List ℕ) (e to kind : ℕ) (cut : Tree → Tree → Tree) (a b : Tree) (g : JoinRoom s e to kind cut a b) where
-  entry-inside : (i k n : ℕ) (l : List Item) → Entry s i k n l → 4 * i + 3 < length s
-  entry-inside i k n l x = let few = x .inside in let long = g .room .long in omega arith
+module _ (gap : ℕ) (s : List ℕ) (e to kind : ℕ) (cut : Tree → Tree → Tree) (a b : Tree) (g : JoinRoom gap s e to kind cut a b) where
+  part-inside : (i : ℕ) (t : Tree) → Operand gap s to i t → (4 * i + 3 < length s) × (getD s (4 * i + 2) 0 < 256)
+  part-inside i t x =
+      let few = x .entry .inside in
+      let long = g .room .long in
+      let same = x .entry .kind-is in
+      let low = kind-low t in
+      (omega arith, omega arith)
+
+  newer : Operand gap s to (e - 1) b
+  newer = record { entry = g .newer; between = g .newer-between; good = g .newer-good }
 
   module _ (rest : ℕ) (r : rest ≡ getD s (4 * (e - 1) + 3) 0) where
     rest-is : rest ≡ gaugeCount b
     rest-is = r ∙ g .newer .gauges-is
 
-    older-is : e - 2 * gaugeCount b ≡ e - 2 * rest
-    older-is = ap (λ (n : ℕ). e - 2 * n) (sym rest-is)
+    older : Operand gap s to (e - 2 * rest) a
+    older =
+        subst (λ (n : ℕ). Operand gap s to (e - 2 * n) a) (sym rest-is)
+        (record { entry = g .older; between = g .older-between; good = g .older-good })
 
-    pub rest-before : 2 * rest ≤ e
-    rest-before = let same = rest-is in let before = g .older-before in omega arith
+    operands : (i j : ℕ) → TwoParts e rest i j → Operands gap s to kind (cut a b) i j
+    operands i j =
+        let few = g .few in
+        let items = g .room .items in
+        ⊎-elim
+        (λ w.
+        record {
+          first = b;
+          second = a;
+          first-is = subst (λ (x : ℕ). Operand gap s to x b) (sym (w .0)) newer;
+          second-is = subst (λ (x : ℕ). Operand gap s to x a) (sym (w .1)) older;
+          few = omega arith;
+          items = omega arith;
+          merge-is = own-exchanged gap kind cut (g .is-cut) a b (g .older-good) (g .newer-good);
+        })
+        (λ w.
+        record {
+          first = a;
+          second = b;
+          first-is = subst (λ (x : ℕ). Operand gap s to x a) (sym (w .0)) older;
+          second-is = subst (λ (x : ℕ). Operand gap s to x b) (sym (w .1)) newer;
+          few = few;
+          items = items;
+          merge-is = own-merge gap kind cut (g .is-cut) a b;
+        })
 
-    abbrev older : Entry s (e - 2 * rest) (kindOf a) (gaugeCount a) (ownShapes a)
-    older = subst (λ (i : ℕ). Entry s i (kindOf a) (gaugeCount a) (ownShapes a)) older-is (g .older)
+  module _ (i j : ℕ) (h : Operands gap s to kind (cut a b) i j) (A B : Stretch) (A-is : A ≡ stretchOf s i kind) (B-is : B ≡ stretchOf s j kind) where
+    abbrev l : List Item
+    l = ownShapes gap (h .first)
 
-    pub older-inside : 4 * (e - 2 * rest) + 3 < length s
-    older-inside = entry-inside (e - 2 * rest) (kindOf a) (gaugeCount a) (ownShapes a) older
+    abbrev k : List Item
+    k = ownShapes gap (h .second)
 
-    pub older-kind : getD s (4 * (e - 2 * rest) + 2) 0 < 256
-    older-kind = let same = older .kind-is in let low = kind-low a in omega arith
+    abbrev A-read : Stretch
+    A-read = record { from = getD s (4 * i) 0; count = getD s (4 * i + 1) 0; across = across (kindOf (h .first)) kind }
 
-    module _ (A B : Stretch) (A-is : A ≡ stretchOf s (e - 2 * rest) kind) (B-is : B ≡ stretchOf s (e - 1) kind) where
-      abbrev A-read : Stretch
-      A-read = record { from = getD s (4 * (e - 2 * rest)) 0; count = getD s (4 * (e - 2 * rest) + 1) 0; across = across (kindOf a) kind }
+    abbrev B-read : Stretch
+    B-read = record { from = getD s (4 * j) 0; count = getD s (4 * j + 1) 0; across = across (kindOf (h .second)) kind }
 
-      abbrev B-read : Stretch
-      B-read = record { from = getD s (4 * (e - 1)) 0; count = getD s (4 * (e - 1) + 1) 0; across = across (kindOf b) kind }
+    A-own : A ≡ A-read
+    A-own = A-is ∙ stretch-is _ _ _ _ _ _ kind refl refl (h .first-is .entry .kind-is)
 
-      A-own : A ≡ A-read
-      A-own = A-is ∙ stretch-is _ _ _ _ _ _ kind refl refl (older .kind-is)
+    B-own : B ≡ B-read
+    B-own = B-is ∙ stretch-is _ _ _ _ _ _ kind refl refl (h .second-is .entry .kind-is)
 
-      B-own : B ≡ B-read
-      B-own = B-is ∙ stretch-is _ _ _ _ _ _ kind refl refl (g .newer .kind-is)
+    -- No item of a part is wider or higher than its gauges and the ribs between them.
+    low-p : (t : Tree) → Good t → (z : Item) → List·Memᴰ z (facing (across (kindOf t) kind) (ownShapes gap t)) → z .p ≤ 1_020 * gaugeCount t - 20
+    low-p t good z inside = let low = own-low gap kind cut (g .is-cut) t (g .narrow) good z inside in omega arith
 
-      older-between : (508 ≤ getD s (4 * (e - 2 * rest)) 0) × (getD s (4 * (e - 2 * rest)) 0 + length (ownShapes a) ≤ to)
-      older-between = subst (λ (i : ℕ). (508 ≤ getD s (4 * i) 0) × (getD s (4 * i) 0 + length (ownShapes a) ≤ to)) older-is (g .older-between)
+    joinable : Joinable gap s A B to l k
+    joinable =
+        let c = h .first-is .entry .count-is in
+        let d = h .second-is .entry .count-is in
+        let x = h .first-is .between in
+        let y = h .second-is .between in
+        subst (λ (v : Stretch). Joinable gap s A v to l k) (sym B-own)
+        (subst (λ (u : Stretch). Joinable gap s u B-read to l k) (sym A-own)
+        (record {
+          older = h .first-is .entry .list;
+          older-count = c;
+          older-some = let filled = own-filled gap (h .first) (h .first-is .good) in omega arith;
+          older-after = omega arith;
+          older-before = omega arith;
+          newer = h .second-is .entry .list;
+          newer-count = d;
+          newer-some = let filled = own-filled gap (h .second) (h .second-is .good) in omega arith;
+          newer-after = omega arith;
+          newer-before = omega arith;
+          room = let items = h .items in let long = g .room .long in omega arith;
+          low =
+              let few = h .few in
+              let narrow = g .narrow in
+              sums-low A-read B-read l k gap (1_020 * gaugeCount (h .first) - 20) (1_020 * gaugeCount (h .second) - 20) (low-p (h .first) (h .first-is .good)) (low-p (h .second) (h .second-is .good)) (omega arith);
+        }))
 
-      pub joinable : Joinable s A B to (ownShapes a) (ownShapes b)
-      joinable =
-          subst (λ (y : Stretch). Joinable s A y to (ownShapes a) (ownShapes b)) (sym B-own)
-          (subst (λ (x : Stretch). Joinable s x B-read to (ownShapes a) (ownShapes b)) (sym A-own)
-          (record {
-            older = older .list;
-            older-count = older .count-is;
-            older-some = let c = older .count-is in let filled = own-filled a (g .older-good) in omega arith;
-            older-after = let w = older-between .0 in omega arith;
-            older-before = let c = older .count-is in let w = older-between .1 in omega arith;
-            newer = g .newer .list;
-            newer-count = g .newer .count-is;
-            newer-some = let c = g .newer .count-is in let filled = own-filled b (g .newer-good) in omega arith;
-            newer-after = let w = g .newer-between .0 in omega arith;
-            newer-before = let c = g .newer .count-is in let w = g .newer-between .1 in omega arith;
-            room = let c = older .count-is in let d = g .newer .count-is in let items = g .room .items in let long = g .room .long in omega arith;
-            low =
-                let few = g .few in
-                sums-low A-read B-read (ownShapes a) (ownShapes b) (1_000 * gaugeCount a) (1_000 * gaugeCount b) (own-low kind cut (g .is-cut) a (g .older-good))
-                (own-low kind cut (g .is-cut) b (g .newer-good)) (omega arith);
-          }))
+    merge-is : mergeOf gap A B l k ≡ ownShapes gap (cut a b)
+    merge-is = ap₂ (λ (u v : Stretch). mergeOf gap u v l k) A-own B-own ∙ h .merge-is
 
-      merge-is : mergeOf A B (ownShapes a) (ownShapes b) ≡ ownShapes (cut a b)
-      merge-is =
-          ap₂ (λ (x y : Stretch). mergeOf x y (ownShapes a) (ownShapes b)) A-own B-own ∙ own-merge kind cut (g .is-cut) a b
+    module _ (z : List ℕ) (count : ℕ) (made : Joined gap s A B to l k z count) where
+      join-count : count ≡ length (ownShapes gap (cut a b))
+      join-count = made .count-is ∙ ap length merge-is
 
-      module _ (z : List ℕ) (count : ℕ) (j : Joined s A B to (ownShapes a) (ownShapes b) z count) where
-        pub join-count : count ≡ length (ownShapes (cut a b))
-        join-count = j .count-is ∙ ap length merge-is
-
-        pub join-added : (first : ℕ) → first ≡ getD s (4 * (e - 2 * rest) + 3) 0 → (v : List ℕ) → v ≡ entryAt z e to count kind (first + rest) → Added s v e to kind (gaugeCount a + gaugeCount b) (ownShapes (cut a b))
-        join-added first f v stored =
-            let long = g .room .long in
-            let same = j .length-kept in
-            let few = g .room .part in
-            let total : first + rest ≡ gaugeCount a + gaugeCount b = ap₂ _+_ (f ∙ older .gauges-is) rest-is in
-            subst (λ (n : ℕ). Added s v e to kind n (ownShapes (cut a b))) total
-            (subst (λ (x : List ℕ). Added s x e to kind (first + rest) (ownShapes (cut a b))) (sym stored)
-            (entry-added z e to count kind (first + rest) (omega arith) s (ownShapes (cut a b)) few (g .room .from) join-count
-            (subst (λ (l : List Item). HasList z to l) merge-is (j .list)) same (j .before-kept)))
+      join-added : (gauges : ℕ) → gauges ≡ gaugeCount a + gaugeCount b → (v : List ℕ) → v ≡ entryAt z e to count kind gauges → Added s v e to kind (gaugeCount a + gaugeCount b) (ownShapes gap (cut a b))
+      join-added gauges total v stored =
+          let long = g .room .long in
+          let same = made .length-kept in
+          let few = g .room .part in
+          subst (λ (n : ℕ). Added s v e to kind n (ownShapes gap (cut a b))) total
+          (subst (λ (x : List ℕ). Added s x e to kind gauges (ownShapes gap (cut a b))) (sym stored)
+          (entry-added z e to count kind gauges (omega arith) s (ownShapes gap (cut a b)) few (g .room .from) join-count
+          (subst (λ (x : List Item). HasList z to x) merge-is (made .list)) same (made .before-kept)))
 
 -- The function's calls, and its way out.
-module _ (s : List ℕ) (e to kind rest : ℕ) (r : rest ≡ getD s (4 * (e - 1) + 3) 0) where
-  pub join-newer : Joins s e to kind → (4 * (e - 1) + 3 < length s) × (getD s (4 * (e - 1) + 2) 0 < 256)
-  join-newer p =
-      let g = p .3 in
-      let few = g .newer .inside in
-      let long = g .room .long in
-      let same = g .newer .kind-is in
-      let low = kind-low (p .2) in
-      (omega arith, omega arith)
+module _ (gap : ℕ) (s : List ℕ) (e to kind rest : ℕ) (r : rest ≡ getD s (4 * (e - 1) + 3) 0) where
+  total : (cut : Tree → Tree → Tree) (a b : Tree) → JoinRoom gap s e to kind cut a b → (first : ℕ) → first ≡ getD s (4 * (e - 2 * rest) + 3) 0 → first + rest ≡ gaugeCount a + gaugeCount b
+  total cut a b g first f =
+      ap₂ _+_ (f ∙ older gap s e to kind cut a b g rest r .entry .gauges-is) (rest-is gap s e to kind cut a b g rest r)
 
-  pub join-before : Joins s e to kind → 2 * rest ≤ e
-  join-before p = rest-before s e to kind (p .0) (p .1) (p .2) (p .3) rest r
+  pub join-gauges : Joins gap s e to kind → (first : ℕ) → first ≡ getD s (4 * (e - 2 * rest) + 3) 0 → first + rest ≤ 64
+  join-gauges p first f = let few = p .3 .few in let all = total (p .0) (p .1) (p .2) (p .3) first f in omega arith
 
-  pub join-older : Joins s e to kind → (4 * (e - 2 * rest) + 3 < length s) × (getD s (4 * (e - 2 * rest) + 2) 0 < 256)
-  join-older p =
-      (older-inside s e to kind (p .0) (p .1) (p .2) (p .3) rest r, older-kind s e to kind (p .0) (p .1) (p .2) (p .3) rest r)
+  module _ (i j : ℕ) (two : TwoParts e rest i j) where
+    abbrev both : (p : Joins gap s e to kind) → Operands gap s to kind (p .0 (p .1) (p .2)) i j
+    both p = operands gap s e to kind (p .0) (p .1) (p .2) (p .3) rest r i j two
 
-  pub join-gauges : Joins s e to kind → (first : ℕ) → first ≡ getD s (4 * (e - 2 * rest) + 3) 0 → first + rest ≤ 64
-  join-gauges p first f =
-      let few = p .3 .few in
-      let x = older s e to kind (p .0) (p .1) (p .2) (p .3) rest r .gauges-is in
-      let y = rest-is s e to kind (p .0) (p .1) (p .2) (p .3) rest r in
-      omega arith
+    pub join-first : Joins gap s e to kind → (4 * i + 3 < length s) × (getD s (4 * i + 2) 0 < 256)
+    join-first p = part-inside gap s e to kind (p .0) (p .1) (p .2) (p .3) i _ (both p .first-is)
 
-  module _ (A B : Stretch) (A-is : A ≡ stretchOf s (e - 2 * rest) kind) (B-is : B ≡ stretchOf s (e - 1) kind) where
-    pub join-merges : Joins s e to kind → (l : List Item) × (k : List Item) × Joinable s A B to l k
-    join-merges p = (_, _, joinable s e to kind (p .0) (p .1) (p .2) (p .3) rest r A B A-is B-is)
+    pub join-second : Joins gap s e to kind → (4 * j + 3 < length s) × (getD s (4 * j + 2) 0 < 256)
+    join-second p = part-inside gap s e to kind (p .0) (p .1) (p .2) (p .3) j _ (both p .second-is)
 
-    module _ (z : List ℕ) (count : ℕ) (j : (l k : List Item) → Joinable s A B to l k → Joined s A B to l k z count) where
-      join-made : (p : Joins s e to kind) → Joined s A B to (ownShapes (p .1)) (ownShapes (p .2)) z count
-      join-made p = j _ _ (joinable s e to kind (p .0) (p .1) (p .2) (p .3) rest r A B A-is B-is)
+    module _ (A B : Stretch) (A-is : A ≡ stretchOf s i kind) (B-is : B ≡ stretchOf s j kind) where
+      pub join-merges : Joins gap s e to kind → (l : List Item) × (k : List Item) × Joinable gap s A B to l k
+      join-merges p = (_, _, joinable gap s e to kind (p .0) (p .1) (p .2) (p .3) i j (both p) A B A-is B-is)
 
-      pub join-stores : Joins s e to kind → (4 * e + 4 ≤ length z) × (to < 65_536) × (count < 65_536) × (e < 127)
-      join-stores p =
-          let g = p .3 in
-          let made = join-made p in
-          let same = made .length-kept in
-          let inside = made .list .inside in
-          let many = made .count-is in
-          let long = g .room .long in
-          let few = g .room .part in
-          let items = g .room .items in
-          let n = join-count s e to kind (p .0) (p .1) (p .2) g rest r A B A-is B-is z count made in
-          let short = cut-short kind (p .0) (g .is-cut) (p .1) (p .2) (g .older-good) (g .newer-good) (g .few) in
-          (omega arith, omega arith, omega arith, few)
+      module _ (z : List ℕ) (count : ℕ) (made : (l k : List Item) → Joinable gap s A B to l k → Joined gap s A B to l k z count) where
+        join-made : (p : Joins gap s e to kind) → Joined gap s A B to (ownShapes gap (both p .first)) (ownShapes gap (both p .second)) z count
+        join-made p = made _ _ (joinable gap s e to kind (p .0) (p .1) (p .2) (p .3) i j (both p) A B A-is B-is)
 
-      pub join-done : (first : ℕ) → first ≡ getD s (4 * (e - 2 * rest) + 3) 0 → (v : List ℕ) → v ≡ entryAt z e to count kind (first + rest) → (cut : Tree → Tree → Tree) (a b : Tree) → JoinRoom s e to kind cut a b → JoinAdded s v e to kind count cut a b
-      join-done first f v stored cut a b g =
-          let made = join-made (cut, a, b, g) in
-          (join-added s e to kind cut a b g rest r A B A-is B-is z count made first f v stored, join-count s e to kind cut a b g rest r A B A-is B-is z count made)
+        as-many : (p : Joins gap s e to kind) → count ≡ length (ownShapes gap (p .0 (p .1) (p .2)))
+        as-many p = join-count gap s e to kind (p .0) (p .1) (p .2) (p .3) i j (both p) A B A-is B-is z count (join-made p)
+
+        pub join-stores : Joins gap s e to kind → (4 * e + 4 ≤ length z) × (to < 65_536) × (count < 65_536) × (e < 127)
+        join-stores p =
+            let g = p .3 in
+            let same = join-made p .length-kept in
+            let long = g .room .long in
+            let few = g .room .part in
+            let items = g .room .items in
+            let n = as-many p in
+            let short = cut-short gap kind (p .0) (g .is-cut) (p .1) (p .2) (g .older-good) (g .newer-good) (g .few) in
+            (omega arith, omega arith, omega arith, few)
+
+        pub join-done : (first : ℕ) → first ≡ getD s (4 * (e - 2 * rest) + 3) 0 → (v : List ℕ) → v ≡ entryAt z e to count kind (first + rest) → (cut : Tree → Tree → Tree) (a b : Tree) → JoinRoom gap s e to kind cut a b → JoinAdded gap s v e to kind count cut a b
+        join-done first f v stored cut a b g =
+            let p : Joins gap s e to kind = (cut, a, b, g) in
+            (join-added gap s e to kind cut a b g i j (both p) A B A-is B-is z count (join-made p) (first + rest) (total cut a b g first f) v stored, as-many p)

@@ -90,28 +90,35 @@ pub fn stretch(scratch: &[u32], part: usize, join: u8) -> Stretch
     }
 }
 
-// Adds a join of the part before it and the older part before that: the merge of their lists from the place `to` on.
-// Answers how many items it has.
-fn store_join(scratch: &mut [u32], part: usize, to: usize, kind: u8) -> usize
-    requires { ⌜ ((cut : Tree → Tree → Tree) × (a : Tree) × (b : Tree) × JoinRoom (now scratch) part to kind cut a b) ⌝ }
-    ensures { λ r. ⌜ ((cut : Tree → Tree → Tree) (a b : Tree) → JoinRoom (now (scratch .entry)) part to kind cut a b → JoinAdded (now (scratch .entry)) (now (scratch .exit)) part to kind r cut a b) ⌝ }
+// Adds a join of the part before it and the older part before that, with a rib between them: the merge of their lists
+// from the place `to` on. Answers how many items it has. The merge of two lists is that of the two exchanged, so the
+// longer one is given first, and the rib is added to the items of the shorter.
+fn store_join(scratch: &mut [u32], part: usize, to: usize, kind: u8, rib: u32) -> usize
+    requires { ⌜ ((cut : Tree → Tree → Tree) × (a : Tree) × (b : Tree) × JoinRoom rib (now scratch) part to kind cut a b) ⌝ }
+    ensures { λ r. ⌜ ((cut : Tree → Tree → Tree) (a b : Tree) → JoinRoom rib (now (scratch .entry)) part to kind cut a b → JoinAdded rib (now (scratch .entry)) (now (scratch .exit)) part to kind r cut a b) ⌝ }
 {
     let newer = part - 1;
     let rest = part_word(scratch, newer, GAUGES);
     let older = part - 2 * rest;
     let first = part_word(scratch, older, GAUGES);
-    let a = stretch(scratch, older, kind);
-    let b = stretch(scratch, newer, kind);
-    let count = merge_lists(scratch, a, b, to);
+    let mut long = older;
+    let mut short = newer;
+    if part_word(scratch, older, COUNT) < part_word(scratch, newer, COUNT) {
+        long = newer;
+        short = older;
+    }
+    let a = stretch(scratch, long, kind);
+    let b = stretch(scratch, short, kind);
+    let count = merge_lists(scratch, a, b, rib, to);
     store_entry(scratch, part, to, count, kind as u32, (first + rest) as u32);
     count
 }
 
-// Stores the lists of every part of a taken file, in the order of its entries. Answers the number of the last part, which
-// is the whole face.
-pub fn store_lists(file: &[u8], scratch: &mut [u32]) -> usize
-    requires { ⌜ Fillable (now file) (now scratch) ⌝ }
-    ensures { λ r. ⌜ ((t : Tree) → faceOf (now (file .entry)) ≡ taken t → Filled (now (scratch .entry)) (now (scratch .exit)) r t) ⌝ }
+// Stores the lists of every part of a taken file, with a rib at each join, in the order of its entries. Answers the number
+// of the last part, which is the whole face.
+pub fn store_lists(file: &[u8], rib: u32, scratch: &mut [u32]) -> usize
+    requires { ⌜ Fillable (now file) rib (now scratch) ⌝ }
+    ensures { λ r. ⌜ ((t : Tree) → faceOf (now (file .entry)) ≡ taken t → Filled rib (now (scratch .entry)) (now (scratch .exit)) r t) ⌝ }
 {
     let known = asks_order(file);
     let mut at = FIRST_ENTRY;
@@ -133,7 +140,7 @@ pub fn store_lists(file: &[u8], scratch: &mut [u32]) -> usize
                 part += 1;
             }
             Entry::Join(kind, next) => {
-                to += store_join(scratch, part, to, kind);
+                to += store_join(scratch, part, to, kind, rib);
                 at = next;
                 part += 1;
             }

@@ -13,9 +13,9 @@ use Rattle.packed.specs.declared.merge.Stretch.{Stretch}
 abbrev pub readAs : Stretch → List Item → List Item
 readAs a l = facing (a .across) l
 
--- The merge of the lists l and k of two stretches, each read as its stretch says.
-abbrev pub mergeOf : Stretch → Stretch → List Item → List Item → List Item
-mergeOf a b l k = merge 0 (readAs a l) (readAs b k)
+-- The merge, with a gap, of the lists l and k of two stretches, each read as its stretch says.
+abbrev pub mergeOf : ℕ → Stretch → Stretch → List Item → List Item → List Item
+mergeOf gap a b l k = merge gap (readAs a l) (readAs b k)
 
 -- There is a place before the stretch, and the place after it fits in a usize.
 pub record Within (a : Stretch) : Type 0 where
@@ -27,8 +27,8 @@ pub record AtItem (a : Stretch) (k place : ℕ) : Type 0 where
   pub along : a .across ≡ false → place ≡ a .from + k
   pub turned : a .across ≡ true → place + k + 1 ≡ a .from + a .count
 
--- The stretches a and b of the scratch s are the lists l and k, neither empty, both after the first word and before the place `to`; from it on there is room for both, and the sums of their p fit.
-pub record Joinable (s : List ℕ) (a b : Stretch) (to : ℕ) (l k : List Item) : Type 0 where
+-- The stretches a and b of the scratch s, of a join's two parts in either order, are the lists l and k, neither empty, both after the first word and before the place `to`; from it on there is room for both, and the sums of their p and the gap fit.
+pub record Joinable (gap : ℕ) (s : List ℕ) (a b : Stretch) (to : ℕ) (l k : List Item) : Type 0 where
   pub older : HasList s (a .from) l
   pub older-count : a .count ≡ length l
   pub older-some : 1 ≤ a .count
@@ -40,11 +40,11 @@ pub record Joinable (s : List ℕ) (a b : Stretch) (to : ℕ) (l k : List Item) 
   pub newer-after : 1 ≤ b .from
   pub newer-before : b .from + b .count ≤ to
   pub room : to + a .count + b .count ≤ length s
-  pub low : (i j : ℕ) → i < length l → j < length k → getD (readAs a l) i (size 0 0) .p + getD (readAs b k) j (size 0 0) .p < 65_536
+  pub low : (i j : ℕ) → i < length l → j < length k → getD (readAs a l) i (size 0 0) .p + gap + getD (readAs b k) j (size 0 0) .p < 65_536
 
 -- The merge stands from the place `to` on, in the scratch z. It has `count` items, and what is before it is kept.
-pub record Joined (s : List ℕ) (a b : Stretch) (to : ℕ) (l k : List Item) (z : List ℕ) (count : ℕ) : Type 0 where
-  pub count-is : count ≡ length (mergeOf a b l k)
-  pub list : HasList z to (mergeOf a b l k)
+pub record Joined (gap : ℕ) (s : List ℕ) (a b : Stretch) (to : ℕ) (l k : List Item) (z : List ℕ) (count : ℕ) : Type 0 where
+  pub count-is : count ≡ length (mergeOf gap a b l k)
+  pub list : HasList z to (mergeOf gap a b l k)
   pub before-kept : (i : ℕ) → i < to → getD z i 0 ≡ getD s i 0
   pub length-kept : length z ≡ length s

@@ -3,7 +3,7 @@ use mathlib.Core.Path.{_≡_}
 use mathlib.Core.List.{List}
 use Prim.Native.Nat.{ℕ, _+_, _*_, _-_, _≤_, _<_}
 use lib.ListN.{length, getD}
-use Rattle.checks.specs.Limits.{bufferWords}
+use Rattle.checks.specs.Limits.{mostRib, bufferWords}
 use Rattle.slicing.specs.Item.{Item}
 use Rattle.slicing.specs.Useful.{gaugeShapes}
 use Rattle.slicing.specs.Tree.{Tree, gaugeCount}
@@ -36,21 +36,22 @@ pub record GaugeAdded (s z : List ℕ) (e to end : ℕ) (sizes : List Item) : Ty
   pub added : Added s z e from 1 1 (gaugeShapes sizes)
   pub named : getD z end 0 ≡ orderWord sizes
 
--- The part before part e is the newer part b of a join, and the older part a is the one before all entries of b.
-pub record JoinRoom (s : List ℕ) (e to kind : ℕ) (cut : Tree → Tree → Tree) (a b : Tree) : Type 0 where
+-- The part before part e is the newer part b of a join with a gap, and the older part a is the one before all entries of b.
+pub record JoinRoom (gap : ℕ) (s : List ℕ) (e to kind : ℕ) (cut : Tree → Tree → Tree) (a b : Tree) : Type 0 where
+  pub narrow : gap ≤ mostRib
   pub is-cut : Cut kind cut
-  pub room : Room s e to (length (ownShapes a) + length (ownShapes b))
+  pub room : Room s e to (length (ownShapes gap a) + length (ownShapes gap b))
   pub newer-before : 1 ≤ e
   pub older-before : 2 * gaugeCount b ≤ e
-  pub older : Entry s (e - 2 * gaugeCount b) (kindOf a) (gaugeCount a) (ownShapes a)
-  pub newer : Entry s (e - 1) (kindOf b) (gaugeCount b) (ownShapes b)
-  pub older-between : Between s to (e - 2 * gaugeCount b) a
-  pub newer-between : Between s to (e - 1) b
+  pub older : Entry s (e - 2 * gaugeCount b) (kindOf a) (gaugeCount a) (ownShapes gap a)
+  pub newer : Entry s (e - 1) (kindOf b) (gaugeCount b) (ownShapes gap b)
+  pub older-between : Between gap s to (e - 2 * gaugeCount b) a
+  pub newer-between : Between gap s to (e - 1) b
   pub older-good : Good a
   pub newer-good : Good b
   pub few : gaugeCount a + gaugeCount b ≤ 64
 
 -- The join of a and b was added as part e, and its list has so many items.
-abbrev pub JoinAdded : (s z : List ℕ) (e to kind count : ℕ) (cut : Tree → Tree → Tree) (a b : Tree) → Type 0
-JoinAdded s z e to kind count cut a b =
-    Added s z e to kind (gaugeCount a + gaugeCount b) (ownShapes (cut a b)) × (count ≡ length (ownShapes (cut a b)))
+abbrev pub JoinAdded : (gap : ℕ) (s z : List ℕ) (e to kind count : ℕ) (cut : Tree → Tree → Tree) (a b : Tree) → Type 0
+JoinAdded gap s z e to kind count cut a b =
+    Added s z e to kind (gaugeCount a + gaugeCount b) (ownShapes gap (cut a b)) × (count ≡ length (ownShapes gap (cut a b)))

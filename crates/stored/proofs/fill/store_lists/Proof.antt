@@ -12,10 +12,10 @@ use Rattle.stored.proofs.fill.store_lists.Statement.{statement}
 use Rattle.stored.proofs.fill.store_lists.Tie as tie
 
 abbrev Inv-loop : tie.InvT-loop
-Inv-loop file scratch₀ known at₀ part₀ to₀ scratch at part to = Filling file scratch₀ scratch at part to
+Inv-loop file rib scratch₀ known at₀ part₀ to₀ scratch at part to = Filling rib file scratch₀ scratch at part to
 
 abbrev μ-loop : tie.MeasureT-loop
-μ-loop file scratch₀ known at₀ part₀ to₀ scratch at part to = length file - at
+μ-loop file rib scratch₀ known at₀ part₀ to₀ scratch at part to = length file - at
 
 asks-order-requires : tie.Need-asks-order-requires Inv-loop μ-loop
 asks-order-requires c κs = search (needs, filling-head)
@@ -42,14 +42,14 @@ in-order-requires : tie.Need-in-order-requires Inv-loop μ-loop
 in-order-requires c κs =
     let at-match = c .before .before in
     let at-entry = at-match .before .before in
-    let bytes = gauge-bytes _ _ _ _ _ _ (at-entry .before .before .loop .inv) _ (at-entry .entry-at .ensures) _ (at-match .g .given .1) in
+    let bytes = gauge-bytes _ _ _ _ _ _ _ (at-entry .before .before .loop .inv) _ (at-entry .entry-at .ensures) _ (at-match .g .given .1) in
     (bytes .some, bytes .few)
 
 order-requires : tie.Need-order-requires Inv-loop μ-loop
 order-requires c κs =
     let at-match = c .before .before .before .before in
     let at-entry = at-match .before .before in
-    gauge-bytes _ _ _ _ _ _ (at-entry .before .before .loop .inv) _ (at-entry .entry-at .ensures) _ (at-match .g .given .1)
+    gauge-bytes _ _ _ _ _ _ _ (at-entry .before .before .loop .inv) _ (at-entry .entry-at .ensures) _ (at-match .g .given .1)
 
 store-gauge-requires : tie.Need-store-gauge-requires Inv-loop μ-loop
 store-gauge-requires c κs =
@@ -62,8 +62,8 @@ store-gauge-requires c κs =
     let found = at-entry .entry-at .ensures in
     let is-gauge = at-match .g .given .1 in
     let asked = at-loop .before .asks-order .ensures in
-    let word = ⊎-elim (λ w. w .2 ∙ w .1 .ensures) (λ w. gauge-in-order _ _ _ _ _ _ filling _ found _ is-gauge _ asked (w .0 .left) _ (w .1 ∙ at-in-order .in-order .ensures)) (at-if .if1 .came) in
-    (gauge-room _ _ _ _ _ _ filling _ found _ is-gauge, gauge-bytes _ _ _ _ _ _ filling _ found _ is-gauge, word)
+    let word = ⊎-elim (λ w. w .2 ∙ w .1 .ensures) (λ w. gauge-in-order _ _ _ _ _ _ _ filling _ found _ is-gauge _ asked (w .0 .left) _ (w .1 ∙ at-in-order .in-order .ensures)) (at-if .if1 .came) in
+    (gauge-room _ _ _ _ _ _ _ filling _ found _ is-gauge, gauge-bytes _ _ _ _ _ _ _ filling _ found _ is-gauge, word)
 
 add-to : tie.Need-add-to Inv-loop μ-loop
 add-to c = search (needs, gauge-fits)
@@ -87,20 +87,20 @@ store-join-requires : tie.Need-store-join-requires Inv-loop μ-loop
 store-join-requires c κs =
     let at-match = c .before .before in
     let at-entry = at-match .before .before in
-    join-ready _ _ _ _ _ _ (at-entry .before .before .loop .inv) _ (at-entry .entry-at .ensures) _ _ (at-match .kind .given .1)
+    join-ready _ _ _ _ _ _ _ (at-entry .before .before .loop .inv) _ (at-entry .entry-at .ensures) _ _ (at-match .kind .given .1)
 
 add-to-3 : tie.Need-add-to-3 Inv-loop μ-loop
 add-to-3 c =
     let at-match = c .before .before .before .before .before in
     let at-entry = at-match .before .before in
-    let few = join-fits _ _ _ _ _ _ (at-entry .before .before .loop .inv) _ (at-entry .entry-at .ensures) _ _ (at-match .kind .given .1) _ _ (c .before .before .store-join .ensures) in
+    let few = join-fits _ _ _ _ _ _ _ (at-entry .before .before .loop .inv) _ (at-entry .entry-at .ensures) _ _ (at-match .kind .given .1) _ _ (c .before .before .store-join .ensures) in
     record { fits = omega arith }
 
 add-part-2 : tie.Need-add-part-2 Inv-loop μ-loop
 add-part-2 c =
     let at-match = c .before .before .before .before .before in
     let at-entry = at-match .before .before in
-    let few = join-part _ _ _ _ _ _ (at-entry .before .before .loop .inv) _ (at-entry .entry-at .ensures) _ _ (at-match .kind .given .1) in
+    let few = join-part _ _ _ _ _ _ _ (at-entry .before .before .loop .inv) _ (at-entry .entry-at .ensures) _ _ (at-match .kind .given .1) in
     record { fits = omega arith }
 
 loop-less-2 : tie.Need-loop-less-2 Inv-loop μ-loop
