@@ -17,12 +17,12 @@ use Rattle.laying.proofs.StretchLaws.{word-inside, table-inside}
 
 -- Some stored gauge, and a place of its list.
 abbrev pub AtPlace : List ℕ → ℕ → ℕ → Type 0
-AtPlace s part k = (sizes : List Item) × GaugePlace s part sizes k
+AtPlace s part k = (gap : ℕ) × (sizes : List Item) × GaugePlace gap s part sizes k
 
 -- The number is that of the size at the place, of any such gauge.
 abbrev pub NumberIs : List ℕ → ℕ → ℕ → ℕ → Type 0
 NumberIs s part k n =
-    (sizes : List Item) → GaugePlace s part sizes k → n ≡ indexOf (getD (gaugeShapes sizes) k (size 0 0)) sizes + 1
+    (gap : ℕ) (sizes : List Item) → GaugePlace gap s part sizes k → n ≡ indexOf (getD (gaugeShapes sizes) k (size 0 0)) sizes + 1
 
 order-some : (sizes : List Item) → 1 ≤ length (gaugeShapes sizes) → 1 ≤ orderWord sizes
 unfolding orderWord
@@ -34,13 +34,13 @@ order-some sizes some =
 
 module _ {s : List ℕ} {part k : ℕ} where
   pub number-table : AtPlace s part k → 4 * part + 3 < length s
-  number-table pre = table-inside s part (gauge (pre .0)) (pre .1 .stored)
+  number-table pre = table-inside (pre .0) s part (gauge (pre .1)) (pre .2 .stored)
 
   -- With the words that are read of the table.
   module _ {from count : ℕ} (from-is : from ≡ getD s (4 * part + 0) 0) (count-is : count ≡ getD s (4 * part + 1) 0) where
-    module _ (sizes : List Item) (g : GaugePlace s part sizes k) where
+    module _ (gap : ℕ) (sizes : List Item) (g : GaugePlace gap s part sizes k) where
       as-many : count ≡ length (gaugeShapes sizes)
-      as-many = count-is ∙ g .stored .0 .count-is ∙ ap length (own-gauge sizes)
+      as-many = count-is ∙ g .stored .0 .count-is ∙ ap length (own-gauge gap sizes)
 
       named : getD s (from + count) 0 ≡ orderWord sizes
       named =
@@ -66,10 +66,10 @@ module _ {s : List ℕ} {part k : ℕ} where
           word-inside s (from + count) (omega arith)
 
     pub number-inside : AtPlace s part k → from + count < length s
-    number-inside pre = behind-inside (pre .0) (pre .1)
+    number-inside pre = behind-inside (pre .0) (pre .1) (pre .2)
 
     pub number-ready : AtPlace s part k → (sizes : List Item) × InOrder sizes (getD s (from + count) 0) count k
-    number-ready pre = (pre .0, in-order (pre .0) (pre .1))
+    number-ready pre = (pre .1, in-order (pre .0) (pre .1) (pre .2))
 
     pub number-is : {n : ℕ} → ((sizes : List Item) → InOrder sizes (getD s (from + count) 0) count k → n ≡ indexOf (getD (gaugeShapes sizes) k (size 0 0)) sizes + 1) → NumberIs s part k n
-    number-is read sizes g = read sizes (in-order sizes g)
+    number-is read gap sizes g = read sizes (in-order gap sizes g)

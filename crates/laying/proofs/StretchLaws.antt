@@ -30,38 +30,38 @@ word-inside s i h =
     by-test (ltb i (length s)) (ltb-true i (length s))
     (λ over. let none = List·getD-eq-default s 0 (ltb-false i (length s) over) in absurd (omega arith))
 
-pub table-inside : (s : List ℕ) (e : ℕ) (t : Tree) → Stored s e t → 4 * e + 3 < length s
-table-inside s e t h =
-    let entry = entry-of s e t h in
+pub table-inside : (gap : ℕ) (s : List ℕ) (e : ℕ) (t : Tree) → Stored gap s e t → 4 * e + 3 < length s
+table-inside gap s e t h =
+    let entry = entry-of gap s e t h in
     let same = entry .gauges-is in
     let some = depth-few t in
     word-inside s (4 * e + 3) (omega arith)
 
 -- What reading the stretch asks.
-pub stretch-ready : (s : List ℕ) (e : ℕ) (t : Tree) → Stored s e t → (4 * e + 3 < length s) × (getD s (4 * e + 2) 0 < 256)
-stretch-ready s e t h =
-    let same = entry-of s e t h .kind-is in
-    (table-inside s e t h, omega (arith, kind-low t))
+pub stretch-ready : (gap : ℕ) (s : List ℕ) (e : ℕ) (t : Tree) → Stored gap s e t → (4 * e + 3 < length s) × (getD s (4 * e + 2) 0 < 256)
+stretch-ready gap s e t h =
+    let same = entry-of gap s e t h .kind-is in
+    (table-inside gap s e t h, omega (arith, kind-low t))
 
-own-facing : (t : Tree) (upward : Bool) → facing (across (kindOf t) (joinKind upward)) (ownShapes t) ≡ facing upward (shapes 0 t)
-own-facing t true = own-stacked t
-own-facing t false = own-beside t
+own-facing : (gap : ℕ) (t : Tree) (upward : Bool) → facing (across (kindOf t) (joinKind upward)) (ownShapes gap t) ≡ facing upward (shapes gap t)
+own-facing gap t true = own-stacked gap t
+own-facing gap t false = own-beside gap t
 
-module _ (s : List ℕ) (e : ℕ) (upward : Bool) (a : Stretch) (a-is : a ≡ stretchOf s e (joinKind upward)) (t : Tree) (h : Stored s e t) where
-  pub stretch-list : HasList s (a .from) (ownShapes t)
-  stretch-list = subst (λ (x : Stretch). HasList s (x .from) (ownShapes t)) (sym a-is) (entry-of s e t h .list)
+module _ (gap : ℕ) (s : List ℕ) (e : ℕ) (upward : Bool) (a : Stretch) (a-is : a ≡ stretchOf s e (joinKind upward)) (t : Tree) (h : Stored gap s e t) where
+  pub stretch-list : HasList s (a .from) (ownShapes gap t)
+  stretch-list = subst (λ (x : Stretch). HasList s (x .from) (ownShapes gap t)) (sym a-is) (entry-of gap s e t h .list)
 
-  pub stretch-count : a .count ≡ length (ownShapes t)
-  stretch-count = ap (λ (x : Stretch). x .count) a-is ∙ entry-of s e t h .count-is
+  pub stretch-count : a .count ≡ length (ownShapes gap t)
+  stretch-count = ap (λ (x : Stretch). x .count) a-is ∙ entry-of gap s e t h .count-is
 
-  pub stretch-facing : readAs a (ownShapes t) ≡ facing upward (shapes 0 t)
+  pub stretch-facing : readAs a (ownShapes gap t) ≡ facing upward (shapes gap t)
   stretch-facing =
-      ap (λ (x : Stretch). readAs x (ownShapes t)) a-is
-      ∙ ap (λ (n : ℕ). facing (across n (joinKind upward)) (ownShapes t)) (entry-of s e t h .kind-is)
-      ∙ own-facing t upward
+      ap (λ (x : Stretch). readAs x (ownShapes gap t)) a-is
+      ∙ ap (λ (n : ℕ). facing (across n (joinKind upward)) (ownShapes gap t)) (entry-of gap s e t h .kind-is)
+      ∙ own-facing gap t upward
 
-pub own-ordered : (t : Tree) → Good t → Ordered (ownShapes t)
+pub own-ordered : (gap : ℕ) (t : Tree) → Good t → Ordered (ownShapes gap t)
 unfolding ownShapes
-own-ordered (gauge s) h = shapes-ordered 0 (gauge s) h
-own-ordered (beside a b) h = shapes-ordered 0 (beside a b) h
-own-ordered (stacked a b) h = turn-ordered (shapes 0 (stacked a b)) (shapes-ordered 0 (stacked a b) h)
+own-ordered gap (gauge s) h = shapes-ordered gap (gauge s) h
+own-ordered gap (beside a b) h = shapes-ordered gap (beside a b) h
+own-ordered gap (stacked a b) h = turn-ordered (shapes gap (stacked a b)) (shapes-ordered gap (stacked a b) h)

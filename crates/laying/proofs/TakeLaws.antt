@@ -27,84 +27,84 @@ turned-at false l count k up e h = absurd (false≢true up)
 
 -- Some stored part, of which an item can be taken.
 abbrev pub Side : List ℕ → ℕ → Bool → ℕ → Type 0
-Side s part upward limit = (t : Tree) × Takable s part upward limit t
+Side s part upward limit = (gap : ℕ) × (t : Tree) × Takable gap s part upward limit t
 
 pub side-ready : (s : List ℕ) (part : ℕ) (upward : Bool) (limit : ℕ) → Side s part upward limit → (4 * part + 3 < length s) × (getD s (4 * part + 2) 0 < 256)
-side-ready s part upward limit pre = stretch-ready s part (pre .0) (pre .1 .stored)
+side-ready s part upward limit pre = stretch-ready (pre .0) s part (pre .1) (pre .2 .stored)
 
 -- With the part's stretch for a join of that kind.
 module _ (s : List ℕ) (part : ℕ) (upward : Bool) (limit join : ℕ) (join-is : join ≡ joinKind upward) (a : Stretch) (read : a ≡ stretchOf s part join) where
   a-is : a ≡ stretchOf s part (joinKind upward)
   a-is = read ∙ ap (stretchOf s part) join-is
 
-  searchable : (t : Tree) → Takable s part upward limit t → Searchable s (a .from) (a .count) (a .across) limit (ownShapes t)
-  searchable t h =
+  searchable : (gap : ℕ) (t : Tree) → Takable gap s part upward limit t → Searchable s (a .from) (a .count) (a .across) limit (ownShapes gap t)
+  searchable gap t h =
       record {
-        list = stretch-list s part upward a a-is t (h .stored);
-        count-is = stretch-count s part upward a a-is t (h .stored);
-        ordered = own-ordered t (h .good);
-        some = subst (HasLow limit) (sym (stretch-facing s part upward a a-is t (h .stored))) (h .some);
+        list = stretch-list gap s part upward a a-is t (h .stored);
+        count-is = stretch-count gap s part upward a a-is t (h .stored);
+        ordered = own-ordered gap t (h .good);
+        some = subst (HasLow limit) (sym (stretch-facing gap s part upward a a-is t (h .stored))) (h .some);
       }
 
   pub can-search : Side s part upward limit → ((l : List Item) × Searchable s (a .from) (a .count) (a .across) limit l)
-  can-search pre = (ownShapes (pre .0), searchable (pre .0) (pre .1))
+  can-search pre = (ownShapes (pre .0) (pre .1), searchable (pre .0) (pre .1) (pre .2))
 
   -- With the place that was found.
   module _ (k : ℕ) (found : (l : List Item) → Searchable s (a .from) (a .count) (a .across) limit l → FirstLow limit (facing (a .across) l) k) where
-    inside : (t : Tree) → Takable s part upward limit t → k < a .count
-    inside t h =
-        let ready = searchable t h in
+    inside : (gap : ℕ) (t : Tree) → Takable gap s part upward limit t → k < a .count
+    inside gap t h =
+        let ready = searchable gap t h in
         let same = ready .count-is in
-        let in-list = found (ownShapes t) ready .in-list in
-        omega (arith, facing-length (a .across) (ownShapes t))
+        let in-list = found (ownShapes gap t) ready .in-list in
+        omega (arith, facing-length (a .across) (ownShapes gap t))
 
     pub found-inside : Side s part upward limit → k < a .count
-    found-inside pre = inside (pre .0) (pre .1)
+    found-inside pre = inside (pre .0) (pre .1) (pre .2)
 
     pub can-read-found : Side s part upward limit → ((l : List Item) × HasList s (a .from) l × (a .count ≡ length l) × (k < a .count))
     can-read-found pre =
-        let ready = searchable (pre .0) (pre .1) in
-        (ownShapes (pre .0), ready .list, ready .count-is, found-inside pre)
+        let ready = searchable (pre .0) (pre .1) (pre .2) in
+        (ownShapes (pre .0) (pre .1), ready .list, ready .count-is, found-inside pre)
 
     -- With the p that is read there.
     module _ (z extent : ℕ) (word : ItemWord s (a .from) (a .count) (a .across) k z) (p-read : extent ≡ z % 65_536) where
       -- The item found is that of the shape list by height or by width, and its p is what is read.
-      record Taken (t : Tree) : Type 0 where
-        first : FirstLow limit (facing upward (shapes 0 t)) k
-        p-same : extent ≡ getD (facing upward (shapes 0 t)) k (size 0 0) .p
-        in-list : k < length (shapes 0 t)
-        count-is : a .count ≡ length (shapes 0 t)
+      record Taken (gap : ℕ) (t : Tree) : Type 0 where
+        first : FirstLow limit (facing upward (shapes gap t)) k
+        p-same : extent ≡ getD (facing upward (shapes gap t)) k (size 0 0) .p
+        in-list : k < length (shapes gap t)
+        count-is : a .count ≡ length (shapes gap t)
 
-      taken : (t : Tree) → Takable s part upward limit t → Taken t
-      taken t h =
-          let ready = searchable t h in
-          let same = stretch-facing s part upward a a-is t (h .stored) in
+      taken : (gap : ℕ) (t : Tree) → Takable gap s part upward limit t → Taken gap t
+      taken gap t h =
+          let ready = searchable gap t h in
+          let same = stretch-facing gap s part upward a a-is t (h .stored) in
           let counted = ready .count-is in
-          let less = inside t h in
-          let low = facing-low (a .across) s (a .from) (ownShapes t) (ready .list) k (omega arith) in
-          let p = p-is (getD (facing (a .across) (ownShapes t)) k (size 0 0)) z extent low (word (ownShapes t) (ready .list) counted) p-read in
+          let less = inside gap t h in
+          let low = facing-low (a .across) s (a .from) (ownShapes gap t) (ready .list) k (omega arith) in
+          let p = p-is (getD (facing (a .across) (ownShapes gap t)) k (size 0 0)) z extent low (word (ownShapes gap t) (ready .list) counted) p-read in
           record {
-            first = subst (λ (l : List Item). FirstLow limit l k) same (found (ownShapes t) ready);
+            first = subst (λ (l : List Item). FirstLow limit l k) same (found (ownShapes gap t) ready);
             p-same = subst (λ (l : List Item). extent ≡ getD l k (size 0 0) .p) same p;
-            in-list = omega (arith, own-length t);
-            count-is = counted ∙ own-length t;
+            in-list = omega (arith, own-length gap t);
+            count-is = counted ∙ own-length gap t;
           }
 
-      extent-is : (t : Tree) (r : Taken t) → extent ≡ noTaller limit (facing upward (shapes 0 t)) .p
-      extent-is t r = r .p-same ∙ ap (λ (i : Item). i .p) (sym (r .first .same))
+      extent-is : (gap : ℕ) (t : Tree) (r : Taken gap t) → extent ≡ noTaller limit (facing upward (shapes gap t)) .p
+      extent-is gap t r = r .p-same ∙ ap (λ (i : Item). i .p) (sym (r .first .same))
 
-      pub takes-along : upward ≡ false → (t : Tree) → Takable s part upward limit t → Takes upward limit t k extent
-      takes-along down t h =
-          let r = taken t h in
-          record { in-list = r .in-list; same = r .first .same ∙ rw down; extent-is = extent-is t r }
+      pub takes-along : upward ≡ false → (gap : ℕ) (t : Tree) → Takable gap s part upward limit t → Takes gap upward limit t k extent
+      takes-along down gap t h =
+          let r = taken gap t h in
+          record { in-list = r .in-list; same = r .first .same ∙ rw down; extent-is = extent-is gap t r }
 
-      pub takes-upward : upward ≡ true → (t : Tree) → Takable s part upward limit t → Takes upward limit t (a .count - 1 - k) extent
-      takes-upward up t h =
-          let r = taken t h in
+      pub takes-upward : upward ≡ true → (gap : ℕ) (t : Tree) → Takable gap s part upward limit t → Takes gap upward limit t (a .count - 1 - k) extent
+      takes-upward up gap t h =
+          let r = taken gap t h in
           let less = r .in-list in
           let counted = r .count-is in
           record {
             in-list = omega arith;
-            same = r .first .same ∙ turned-at upward (shapes 0 t) (a .count) k up counted less;
-            extent-is = extent-is t r;
+            same = r .first .same ∙ turned-at upward (shapes gap t) (a .count) k up counted less;
+            extent-is = extent-is gap t r;
           }

@@ -3,7 +3,7 @@ ghost use mathlib.Core.Path.{_≡_};
 ghost use mathlib.Core.Bool.{cond};
 ghost use mathlib.Core.List.{_∷_};
 ghost use mathlib.Core.List.{List};
-ghost use Prim.Native.Nat.{_+_, _/_, _%_, _^_, _≤_, _<_};
+ghost use Prim.Native.Nat.{ℕ, _+_, _/_, _%_, _^_, _≤_, _<_};
 ghost use lib.ListN.{length, getD, drop};
 ghost use Rattle.slicing.specs.Item.{Item, size};
 ghost use Rattle.slicing.specs.Useful.{indexOf, gaugeShapes};
@@ -28,8 +28,8 @@ use useful::order::number_at;
 
 // The item at a place of a part's shape list by height.
 pub fn item_at(scratch: &[u32], part: usize, place: usize) -> u32
-    requires { ⌜ ((t : Tree) × Stored (now scratch) part t × (place < length (shapes 0 t))) ⌝ }
-    ensures { λ r. ⌜ ((t : Tree) → Stored (now (scratch .entry)) part t → place < length (shapes 0 t) → r ≡ pack (shapeAt t place)) ⌝ }
+    requires { ⌜ ((gap : ℕ) × (t : Tree) × Stored gap (now scratch) part t × (place < length (shapes gap t))) ⌝ }
+    ensures { λ r. ⌜ ((gap : ℕ) (t : Tree) → Stored gap (now (scratch .entry)) part t → place < length (shapes gap t) → r ≡ pack (shapeAt gap t place)) ⌝ }
 {
     let list = stretch(scratch, part, entries::BESIDE);
     read_item(scratch, list.from, list.count, list.across, place)
@@ -58,8 +58,8 @@ fn moved(at: u32, by: u32, goes: bool) -> u32
 
 // The number within the gauge of the size at a place of its list: the word behind the list has it.
 fn size_number(scratch: &[u32], part: usize, place: usize) -> u32
-    requires { ⌜ ((s : List Item) × GaugePlace (now scratch) part s place) ⌝ }
-    ensures { λ r. ⌜ ((s : List Item) → GaugePlace (now (scratch .entry)) part s place → r ≡ indexOf (getD (gaugeShapes s) place (size 0 0)) s + 1) ⌝ }
+    requires { ⌜ ((gap : ℕ) × (s : List Item) × GaugePlace gap (now scratch) part s place) ⌝ }
+    ensures { λ r. ⌜ ((gap : ℕ) (s : List Item) → GaugePlace gap (now (scratch .entry)) part s place → r ≡ indexOf (getD (gaugeShapes s) place (size 0 0)) s + 1) ⌝ }
 {
     let from = part_word(scratch, part, FROM);
     let count = part_word(scratch, part, COUNT);
@@ -79,18 +79,10 @@ fn write_gauge(out: &mut [u32], number: u32, x: u32, y: u32, size: u32)
 }
 
 // Lays a part out with the item at a place of its shape list, its lower left corner at x, y: first the left or lower
-// part, then the other, down to the gauges. Each writes its own gauges' words only.
-pub fn lay(
-    scratch: &[u32],
-    part: usize,
-    gauges: usize,
-    place: usize,
-    x: u32,
-    y: u32,
-    out: &mut [u32],
-)
-    requires { ⌜ ((t : Tree) × Layable (now scratch) part t gauges place x y (now out)) ⌝ }
-    ensures { λ _. ⌜ ((t : Tree) → Layable (now (scratch .entry)) part t gauges place x y (now (out .entry)) → now (out .exit) ≡ laid t place x y (now (out .entry))) ⌝ }
+// part, then the other, which starts a rib after it, down to the gauges. Each writes its own gauges' words only.
+pub fn lay(scratch: &[u32], part: usize, place: usize, rib: u32, x: u32, y: u32, out: &mut [u32])
+    requires { ⌜ ((t : Tree) × Layable rib (now scratch) part t place x y (now out)) ⌝ }
+    ensures { λ _. ⌜ ((t : Tree) → Layable rib (now (scratch .entry)) part t place x y (now (out .entry)) → now (out .exit) ≡ laid rib t place x y (now (out .entry))) ⌝ }
 {
     let kind = part_word(scratch, part, KIND);
     let z = item_at(scratch, part, place);
@@ -103,17 +95,18 @@ pub fn lay(
     let newer = part - 1;
     let rest = part_word(scratch, newer, GAUGES);
     let older = part - 2 * rest;
-    let first = gauges - rest;
+    let first = part_word(scratch, older, GAUGES);
     let a = take_item(scratch, older, upward, limit);
     let b = take_item(scratch, newer, upward, limit);
-    let right = moved(x, a.extent, !upward);
-    let above = moved(y, a.extent, upward);
-    lay(scratch, older, first, a.place, x, y, out);
+    let past = a.extent + rib;
+    let right = moved(x, past, !upward);
+    let above = moved(y, past, upward);
+    lay(scratch, older, a.place, rib, x, y, out);
     lay(
         scratch,
         newer,
-        rest,
         b.place,
+        rib,
         right,
         above,
         &mut out[5 * first..],

@@ -1,6 +1,7 @@
 // The item that a side of a join takes of its stored list.
 ghost use mathlib.Core.Path.{_≡_};
 ghost use mathlib.Core.List.{List};
+ghost use Prim.Native.Nat.{ℕ};
 ghost use Rattle.slicing.specs.Item.{Item};
 ghost use Rattle.slicing.specs.Tree.{Tree};
 ghost use Rattle.packed.specs.inside.Packed.{facing};
@@ -49,8 +50,8 @@ fn join_kind(upward: bool) -> u8
 // The item that a part takes at a join, side by side or upward: the first of its list by height, or by width, of at
 // most the limit.
 pub fn take_item(scratch: &[u32], part: usize, upward: bool, limit: u32) -> Taken
-    requires { ⌜ ((t : Tree) × Takable (now scratch) part upward limit t) ⌝ }
-    ensures { λ r. ⌜ ((t : Tree) → Takable (now (scratch .entry)) part upward limit t → Takes upward limit t (r .place) (r .extent)) ⌝ }
+    requires { ⌜ ((gap : ℕ) × (t : Tree) × Takable gap (now scratch) part upward limit t) ⌝ }
+    ensures { λ r. ⌜ ((gap : ℕ) (t : Tree) → Takable gap (now (scratch .entry)) part upward limit t → Takes gap upward limit t (r .place) (r .extent)) ⌝ }
 {
     let list = stretch(scratch, part, join_kind(upward));
     let k = first_no_larger(scratch, list.from, list.count, list.across, limit);

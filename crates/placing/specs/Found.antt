@@ -15,11 +15,11 @@ abbrev pub noFace : ℕ → Fitted
 noFace n = record { number = n; height = 0; width = 0; area = 0; count = 0 }
 
 -- "Does a layout fit? 19." "Returned: height and width of the layout written, area as their product, item count as the length of the root's list."
-abbrev pub faceFound : Tree → Pick → Fitted
-faceFound t nothing = noFace (numberOf Fits)
-faceFound t (picked z) = record { number = 0; height = height z; width = width z; area = area z; count = length (shapes 0 t) }
+abbrev pub faceFound : ℕ → Tree → Pick → Fitted
+faceFound rib t nothing = noFace (numberOf Fits)
+faceFound rib t (picked z) = record { number = 0; height = height z; width = width z; area = area z; count = length (shapes rib t) }
 
 -- "Output, per gauge: size number within the gauge, across, up, width, height." "words after 5g stay". "19 leaves the output".
-abbrev pub faceWords : Tree → Pick → List ℕ → List ℕ
-faceWords t nothing old = old
-faceWords t (picked z) old = writtenOver (words t (place 0 t z 0 0)) old
+abbrev pub faceWords : ℕ → Tree → Pick → List ℕ → List ℕ
+faceWords rib t nothing old = old
+faceWords rib t (picked z) old = writtenOver (words t (place rib t z 0 0)) old

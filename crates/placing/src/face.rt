@@ -26,20 +26,20 @@ pub fn refused(number: u32) -> Fitted
     }
 }
 
-// The smallest face of a taken file in an opening, its layout in the output. No list is built in an arena. It is for
-// callers that have made the checks of the fit call.
+// The smallest face of a taken file in an opening, with a rib at each join, its layout in the output. No list is built in
+// an arena. It is for callers that have made the checks of the fit call.
 pub fn place_face(
     file: &[u8],
-    gauges: usize,
+    rib: u32,
     height: u32,
     width: u32,
     scratch: &mut [u32],
     output: &mut [u32],
 ) -> Fitted
-    requires { ⌜ Placeable (now file) gauges (now scratch) (now output) ⌝ }
-    ensures { λ r. ⌜ PlacedIn (now (file .entry)) (outline height width) r (now (output .entry)) (now (output .exit)) ⌝ }
+    requires { ⌜ Placeable (now file) rib (now scratch) (now output) ⌝ }
+    ensures { λ r. ⌜ PlacedIn (now (file .entry)) rib (outline height width) r (now (output .entry)) (now (output .exit)) ⌝ }
 {
-    let root = store_lists(file, scratch);
+    let root = store_lists(file, rib, scratch);
     let list = stretch(scratch, root, entries::BESIDE);
     let picked = pick(scratch, list.from, list.count, list.across, height, width);
     if !picked.found {
@@ -50,7 +50,7 @@ pub fn place_face(
     let high = m_of(z);
     let wide = p_of(z);
     let count = list.count as u32;
-    lay(scratch, root, gauges, place, 0, 0, output);
+    lay(scratch, root, place, rib, 0, 0, output);
     Fitted {
         number: checks::TAKEN,
         height: high,

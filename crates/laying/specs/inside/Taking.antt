@@ -40,13 +40,13 @@ abbrev pub joinKind : Bool → ℕ
 joinKind upward = cond upward 0x03 0x02
 
 -- A stored part, of whose shape list, by height or turned, an item is taken.
-pub record Takable (s : List ℕ) (part : ℕ) (upward : Bool) (limit : ℕ) (t : Tree) : Type 0 where
-  pub stored : Stored s part t
+pub record Takable (gap : ℕ) (s : List ℕ) (part : ℕ) (upward : Bool) (limit : ℕ) (t : Tree) : Type 0 where
+  pub stored : Stored gap s part t
   pub good : Good t
-  pub some : HasLow limit (facing upward (shapes 0 t))
+  pub some : HasLow limit (facing upward (shapes gap t))
 
 -- The item taken, by its place in the shape list by height, and its p along the join.
-pub record Takes (upward : Bool) (limit : ℕ) (t : Tree) (place extent : ℕ) : Type 0 where
-  pub in-list : place < length (shapes 0 t)
-  pub same : noTaller limit (facing upward (shapes 0 t)) ≡ facingItem upward (getD (shapes 0 t) place (size 0 0))
-  pub extent-is : extent ≡ noTaller limit (facing upward (shapes 0 t)) .p
+pub record Takes (gap : ℕ) (upward : Bool) (limit : ℕ) (t : Tree) (place extent : ℕ) : Type 0 where
+  pub in-list : place < length (shapes gap t)
+  pub same : noTaller limit (facing upward (shapes gap t)) ≡ facingItem upward (getD (shapes gap t) place (size 0 0))
+  pub extent-is : extent ≡ noTaller limit (facing upward (shapes gap t)) .p

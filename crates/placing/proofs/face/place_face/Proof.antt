@@ -35,7 +35,7 @@ module _ (c : tie.After-pick) where
   entry = start stored
 
   chosen :
-      Chosen (entry .args .file .now) (entry .args .scratch .now) (stored .store-lists .last .1 .0) (stored .store-lists .result) (outline (entry .args .height) (entry .args .width))
+      Chosen (entry .args .rib) (entry .args .file .now) (entry .args .scratch .now) (stored .store-lists .last .1 .1 .0) (stored .store-lists .result) (outline (entry .args .height) (entry .args .width))
       (at-stretch c .stretch .result) (c .pick .result .found) (c .pick .result .place)
   chosen = record { filled = stored .store-lists .ensures; root-is = at-stretch c .stretch .ensures; picks = c .pick .ensures }
 
