@@ -12,14 +12,14 @@ use Rattle.placing.specs.declared.Fitted.{Fitted}
 use Rattle.fit.specs.Fitting.{fitChecks, fitted, fitOutput}
 use Rattle.fit.specs.Demand3.{Demand3}
 
--- What the call leaves, by the answer r of checks 1 to 18. The arena and the scratch are as after a list call: "19 leaves the output, and the arena as on success."
-pub record FitLeaves (r : Answer Tree) (levels : List ℕ) (o : Outline) (old : Lent) (answer : Fitted) (new : Lent) : Type 0 where
-  pub answered : answer ≡ fitted r o
-  pub output : new .output ≡ fitOutput r o (old .output)
-  pub arena : ListArena r levels (old .arena) (new .arena)
+-- What the call leaves, by the answer r of checks 1 to 18 and 22. The arena and the scratch are as after a list call: "19 leaves the output, and the arena as on success."
+pub record FitLeaves (r : Answer Tree) (levels : List ℕ) (rib : ℕ) (o : Outline) (old : Lent) (answer : Fitted) (new : Lent) : Type 0 where
+  pub answered : answer ≡ fitted r rib o
+  pub output : new .output ≡ fitOutput r rib o (old .output)
+  pub arena : ListArena r levels rib (old .arena) (new .arena)
   pub scratch : FreeAfter r (old .scratch) (new .scratch)
-  pub demand-3 : Demand3 r o answer (old .output) (new .output)
+  pub demand-3 : Demand3 r rib o answer (old .output) (new .output)
 
 -- Of the face that its file means.
-abbrev pub FitPromise : Answer Tree → List ℕ → Outline → Lent → Fitted → Lent → Type 0
-FitPromise face levels o old answer new = FitLeaves (fitChecks face levels o old) levels o old answer new
+abbrev pub FitPromise : Answer Tree → List ℕ → ℕ → Outline → Lent → Fitted → Lent → Type 0
+FitPromise face levels rib o old answer new = FitLeaves (fitChecks face levels rib o old) levels rib o old answer new

@@ -21,30 +21,41 @@ struct Lengths {
     pub output: usize,
 }
 
-// Checks 14 to 18, of the levels, the opening and the lengths of the lent buffers: the number of the first that fails,
-// or 0.
-fn asked_number(n: usize, g: usize, levels: &[u8], height: u32, width: u32, lengths: Lengths) -> u32
+// Checks 14, 15, 22 and 16 to 18, of the levels, the rib, the opening and the lengths of the lent buffers: the number of
+// the first that fails, or 0.
+fn asked_number(
+    n: usize,
+    g: usize,
+    levels: &[u8],
+    rib: u32,
+    height: u32,
+    width: u32,
+    lengths: Lengths,
+) -> u32
     requires { ⌜ g ≤ mostGauges ⌝ }
-    ensures { λ r. ⌜ r ≡ number (fitAsks n g (now (levels .entry)) (outline height width) (lengths .arena) (lengths .scratch) (lengths .output)) ⌝ }
+    ensures { λ r. ⌜ r ≡ number (fitAsks n g (now (levels .entry)) rib (outline height width) (lengths .arena) (lengths .scratch) (lengths .output)) ⌝ }
 {
     let buffers = lent::buffers_number(WORDS, lengths.arena, lengths.scratch);
     let words = checks::first_no(buffers, lent::output_number(5 * g, lengths.output));
-    let given = checks::first_no(lent::opening_number(height, width), words);
+    let opening = checks::first_no(lent::opening_number(height, width), words);
+    let given = checks::first_no(lent::rib_number(rib), opening);
     checks::first_no(lent::levels_number(n, levels), given)
 }
 
-// Checks 1 to 18, then the smallest face inside the opening, its layout in the output and its list in the arena; 19 where
-// none is inside, with the output as it was. Every other refusal leaves every lent buffer as it was.
+// Checks 1 to 18, with 22 right after 15, then the smallest face inside the opening with a rib between the parts of each
+// join, its layout in the output and its list in the arena; 19 where none is inside, with the output as it was. Every
+// other refusal leaves every lent buffer as it was.
 pub fn fit(
     file: &[u8],
     levels: &[u8],
+    rib: u32,
     height: u32,
     width: u32,
     arena: &mut [u32],
     scratch: &mut [u32],
     output: &mut [u32],
 ) -> Fitted
-    ensures { λ r. ⌜ FitPromise (faceOf (now (file .entry))) (now (levels .entry)) (outline height width) (lent (now (arena .entry)) (now (scratch .entry)) (now (output .entry))) r (lent (now (arena .exit)) (now (scratch .exit)) (now (output .exit))) ⌝ }
+    ensures { λ r. ⌜ FitPromise (faceOf (now (file .entry))) (now (levels .entry)) rib (outline height width) (lent (now (arena .entry)) (now (scratch .entry)) (now (output .entry))) r (lent (now (arena .exit)) (now (scratch .exit)) (now (output .exit))) ⌝ }
 {
     let face = facefile::read(file);
     if face.number != checks::TAKEN {
@@ -55,10 +66,10 @@ pub fn fit(
         scratch: scratch.len(),
         output: output.len(),
     };
-    let number = asked_number(face.sizes, face.gauges, levels, height, width, lengths);
+    let number = asked_number(face.sizes, face.gauges, levels, rib, height, width, lengths);
     if number != checks::TAKEN {
         return refused(number);
     }
-    build(file, levels, arena);
-    place_face(file, face.gauges, height, width, scratch, output)
+    build(file, levels, rib, arena);
+    place_face(file, rib, height, width, scratch, output)
 }

@@ -61,7 +61,7 @@ module _ (file levels : List ℕ) (gauges : ℕ) (k : Levelled file levels gauge
   abbrev t : Tree
   t = k .tallied .tree
 
-  pub writable : (arena output : List ℕ) → bufferWords ≤ length arena → 898 ≤ length output → Writable file levels arena output
+  pub writable : (arena output : List ℕ) → bufferWords ≤ length arena → 898 ≤ length output → Writable file levels 0 arena output
   writable arena output long room =
       record {
         ready =
@@ -71,17 +71,18 @@ module _ (file levels : List ℕ) (gauges : ℕ) (k : Levelled file levels gauge
               as-many = k .tallied .sizes-is;
               low = λ i less. k .in-range i less .0;
               high = λ i less. k .in-range i less .1;
+              narrow = omega arith;
               long = long;
             };
         room = let most = sizes-most file t (k .tallied .face) in omega arith;
       }
 
-  pub placeable : (scratch output : List ℕ) → bufferWords ≤ length scratch → 320 ≤ length output → Placeable file gauges scratch output
+  pub placeable : (scratch output : List ℕ) → bufferWords ≤ length scratch → 320 ≤ length output → Placeable file 0 scratch output
   placeable scratch output long room =
       record {
         tree = t;
         face = k .tallied .face;
-        gauges-is = k .tallied .gauges-is;
+        narrow = omega arith;
         long = long;
         room = let few = face-taken file t (k .tallied .face) .few in omega arith;
       }

@@ -35,7 +35,7 @@ other-text : (a b old new : List ℕ) (r : ℕ) → a ≡ b → Printed a old ne
 other-text a b old new r e p = subst (λ (x : List ℕ). Printed x old new r) e p
 
 -- A face that is not placed.
-no-text : (t : Tree) (p : Pick) (face : Fitted) → face ≡ faceFound t p → (face .number ≡ 0 → ⊥) → refusedText (face .number) ≡ pickPrinted t p
+no-text : (t : Tree) (p : Pick) (face : Fitted) → face ≡ faceFound 0 t p → (face .number ≡ 0 → ⊥) → refusedText (face .number) ≡ pickPrinted t p
 no-text t nothing face e other = ap (λ (f : Fitted). refusedText (f .number)) e
 no-text t (picked z) face e other = absurd (other (ap (λ (f : Fitted). f .number) e))
 
@@ -46,7 +46,7 @@ Renders face items layout old new r =
 
 -- One that is, by that promise.
 module _ (t : Tree) (face : Fitted) (items layout old new : List ℕ) (r : ℕ) where
-  placed : (p : Pick) → face ≡ faceFound t p → face .number ≡ 0 → items ≡ listWords (shapes 0 t) → ((z : Item) → p ≡ picked z → layout ≡ words t (place 0 t z 0 0)) → Renders face items layout old new r → Printed (pickPrinted t p) old new r
+  placed : (p : Pick) → face ≡ faceFound 0 t p → face .number ≡ 0 → items ≡ listWords (shapes 0 t) → ((z : Item) → p ≡ picked z → layout ≡ words t (place 0 t z 0 0)) → Renders face items layout old new r → Printed (pickPrinted t p) old new r
   placed nothing e zero i l render =
       let n = ap (λ (f : Fitted). f .number) e in absurd (omega arith)
   placed (picked z) e zero i l render =
@@ -67,27 +67,27 @@ starts : (k : ℕ) (words old new : List ℕ) → new ≡ writtenOver words old 
 unfolding writtenOver
 starts k words old new e n = ap (λ (l : List ℕ). take k l) e ∙ take-at words (drop (length words) old) k (sym n)
 
-laid-by : (t : Tree) (p : Pick) (gauges : ℕ) (old new : List ℕ) → gauges ≡ gaugeCount t → new ≡ faceWords t p old → (z : Item) → p ≡ picked z → take (5 * gauges) new ≡ words t (place 0 t z 0 0)
+laid-by : (t : Tree) (p : Pick) (gauges : ℕ) (old new : List ℕ) → gauges ≡ gaugeCount t → new ≡ faceWords 0 t p old → (z : Item) → p ≡ picked z → take (5 * gauges) new ≡ words t (place 0 t z 0 0)
 laid-by t p gauges old new g e z is =
     let long = words-length t (place 0 t z 0 0) in
-    starts (5 * gauges) (words t (place 0 t z 0 0)) old new (e ∙ ap (λ (x : Pick). faceWords t x old) is) (omega arith)
+    starts (5 * gauges) (words t (place 0 t z 0 0)) old new (e ∙ ap (λ (x : Pick). faceWords 0 t x old) is) (omega arith)
 
 module _ (file levels : List ℕ) (gauges : ℕ) (arena items items' layout layout' : List ℕ) (count : ℕ) (face : Fitted) where
   -- The list of a levelled face was written, and the face was placed.
   pub record Ran : Type 0 where
     pub ready : Levelled file levels gauges
-    pub wrote : Wrote file levels items arena items' count
-    pub placed-in : PlacedIn file widest face layout layout'
+    pub wrote : Wrote file levels 0 items arena items' count
+    pub placed-in : PlacedIn file 0 widest face layout layout'
 
   module _ (c : Ran) where
     abbrev t : Tree
     t = c .ready .tallied .tree
 
-    list-written : WroteFace levels items arena items' count t
+    list-written : WroteFace levels 0 items arena items' count t
     unfolding Wrote
     list-written = c .wrote t (c .ready .tallied .face)
 
-    face-placed : PlacedFace t widest face layout layout'
+    face-placed : PlacedFace 0 t widest face layout layout'
     unfolding PlacedIn
     face-placed = c .placed-in t (c .ready .tallied .face)
 

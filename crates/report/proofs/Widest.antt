@@ -11,7 +11,7 @@ use Rattle.slicing.specs.Tree.{Tree}
 use Rattle.slicing.specs.Shapes.{shapes}
 use Rattle.slicing.specs.Fit.{Pick, nothing, picked, smallest, place, words}
 use Rattle.slicing.proofs.ShapeLaws.{shapes-filled}
-use Rattle.slicing.proofs.PartLists.{shapes-low}
+use Rattle.slicing.proofs.Reach.{shapes-touching}
 use Rattle.slicing.proofs.Picking.{nothing-within}
 use Rattle.facefile.specs.Format.{faceOf}
 use Rattle.facefile.proofs.Taken.{face-taken}
@@ -25,7 +25,7 @@ something-fits file t face e =
     let few = known .few in
     let first = getD (shapes 0 t) 0 (size 0 0) in
     let is-in = place-in (shapes 0 t) 0 (shapes-filled 0 t (known .good)) in
-    let low = shapes-low t (known .good) first is-in in
+    let low = shapes-touching t (known .good) first is-in in
     nothing-within widest (shapes 0 t) e .none first is-in (record { low = omega arith; narrow = omega arith })
 
 -- So the text of a taken file is that of an item that is picked.

@@ -13,7 +13,7 @@ use Rattle.slicing.specs.Fit.{Pick, nothing, picked, smallest, place, words}
 use Rattle.rendering.specs.Text.{facesText, refusedText}
 use Rattle.rendering.specs.Room.{textBytes}
 
--- The opening, 64,000 by 64,000.
+-- The opening, 64,000 by 64,000. Document 02: "The program `faces` has rib 0."
 abbrev pub widest : Outline
 widest = outline 64_000 64_000
 

@@ -21,6 +21,9 @@ use rendering::render::render_refused;
 // The height and the width of the opening.
 const OPENING: u32 = 64_000;
 
+// The rib: parts touch.
+const RIB: u32 = 0;
+
 // The levels of at most 512 sizes. The `ensures` here and below give only the lengths, which lending needs.
 fn levels_room() -> [u8; SIZES]
     ensures { λ r. ⌜ mostSizes ≡ length r ⌝ }
@@ -94,8 +97,8 @@ fn placed_text(
 {
     let mut items = items_room();
     let mut layout = layout_room();
-    let count = shapes::write_list(file, levels, words, &mut items);
-    let face = placing::place_face(file, gauges, OPENING, OPENING, words, &mut layout);
+    let count = shapes::write_list(file, levels, RIB, words, &mut items);
+    let face = placing::place_face(file, RIB, OPENING, OPENING, words, &mut layout);
     told_text(face, count, &items, gauges, &layout, text)
 }
 

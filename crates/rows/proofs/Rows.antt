@@ -6,7 +6,8 @@ use mathlib.Core.List.{List, [], _∷_, _++_}
 use Prim.Native.Nat.{ℕ, zero, suc, _+_, _*_}
 use lib.Dec.{ltb, eqb}
 use lib.ListN.{replicate, take}
-use Rattle.checks.specs.Answer.{outcome}
+use Rattle.checks.specs.Limits.{bufferWords}
+use Rattle.checks.specs.Answer.{number, outcome}
 use Rattle.slicing.specs.Item.{Item, size}
 use Rattle.slicing.specs.Tree.{Tree, sizeCount, leastDepth, mostDepth}
 use Rattle.slicing.specs.Useful.{indexOf, gaugeShapes}
@@ -24,16 +25,20 @@ use Rattle.arena.specs.Lazy.{nextWith, lastWith, sumFrom, trueP, held, walk, li
 use Rattle.maxplus.specs.declared.Reading.{Reading}
 use Rattle.maxplus.specs.Read.{readItem, reading}
 use Rattle.lent.specs.Lent.{writtenOver}
+use Rattle.lent.specs.Questions.{levelCount, levelRange, levelsLent, ribGiven, openingGiven, buffersLent, outputLent}
 use Rattle.writing.specs.Words.{listWords}
 use Rattle.placing.specs.declared.Fitted.{Fitted}
 use Rattle.placing.specs.Found.{noFace}
-use Rattle.fit.specs.Fitting.{fitted, fitOutput}
+use Rattle.shapes.specs.Listing.{listAsks}
+use Rattle.fit.specs.Fitting.{fitAsks, fitted, fitOutput}
 
 pub data Row : Type 0 where
-  -- The outer sizes of a file's face.
-  lists : List ℕ → List Item → Row
-  -- A file's face in an opening: what the fit answers, and the words that it writes.
-  fits : List ℕ → Outline → Fitted → List ℕ → Row
+  -- The outer sizes of a file's face, with a rib.
+  lists : List ℕ → ℕ → List Item → Row
+  -- A file's face, with a rib, in an opening: what the fit answers, and the words that it writes.
+  fits : List ℕ → ℕ → Outline → Fitted → List ℕ → Row
+  -- A rib and an opening: the numbers of the list call's and of the fit call's questions.
+  asks : ℕ → Outline → ℕ → ℕ → Row
   -- A file of a lopsided tree of n sizes, and its top level.
   tops : List ℕ → ℕ → ℕ → Row
   -- A size number and its uncut level.
@@ -70,9 +75,17 @@ under p adjust =
 abbrev readHolds : ℕ → Reading → Bool
 readHolds p r = eqb (r .number) 0 && eqb (r .m) 60 && eqb (r .p) p
 
+-- The levels of four sizes.
+abbrev ones : List ℕ
+ones = replicate 4 1
+
 abbrev pub holds : Row → Bool
-holds (lists file items) = outcome (faceOf file) false (λ t. same (listWords (shapes 0 t)) (listWords items))
-holds (fits file o answer output) = sameFitted (fitted (faceOf file) o) answer && same (fitOutput (faceOf file) o []) output
+holds (lists file rib items) = outcome (faceOf file) false (λ t. same (listWords (shapes rib t)) (listWords items))
+holds (fits file rib o answer output) =
+    sameFitted (fitted (faceOf file) rib o) answer && same (fitOutput (faceOf file) rib o []) output
+holds (asks rib o listed fit) =
+    eqb (number (listAsks 4 2 ones rib bufferWords bufferWords 6)) listed
+    && eqb (number (fitAsks 4 2 ones rib o bufferWords bufferWords 10)) fit
 holds (tops file n level) = outcome (faceOf file) false (topHolds n level)
 holds (uncuts r level) = eqb (uncutLevel r) level
 holds (reads p adjust true-p) = readHolds true-p (reading (readItem (under p adjust) 1))
@@ -132,26 +145,51 @@ abbrev lopsided : ℕ → ℕ → List ℕ
 lopsided first k =
     0x46 ∷ 0x43 ∷ 0x45 ∷ 0x00 ∷ 0x01 ∷ 0x00 ∷ (1 + 2 * k) ∷ (gaugeOf first ++ eights k)
 
+-- So many gauges of 1,000 by 1,000, each right of all before it.
+abbrev largestGauge : List ℕ
+largestGauge = 0x01 ∷ 0x01 ∷ 0x03 ∷ 0xE8 ∷ 0x03 ∷ 0xE8 ∷ []
+
+abbrev largestGauges : ℕ → List ℕ
+largestGauges zero = []
+largestGauges (suc k) = largestGauge ++ (0x02 ∷ largestGauges k)
+
+-- Sixty-four of them.
+abbrev largestRow : List ℕ
+largestRow = 0x46 ∷ 0x43 ∷ 0x45 ∷ 0x00 ∷ 0x01 ∷ 0x00 ∷ 0x7F ∷ (largestGauge ++ largestGauges 63)
+
 abbrev face : ℕ → ℕ → ℕ → ℕ → Fitted
 face h w area count = record { number = 0; height = h; width = w; area = area; count = count }
 
 abbrev pub rows : List Row
 rows =
-    lists example (size 60 70 ∷ size 50 90 ∷ size 40 110 ∷ [])
-    ∷ lists stackedInstead (size 110 40 ∷ size 90 50 ∷ size 70 60 ∷ [])
-    ∷ lists equalHeights (size 60 70 ∷ [])
-    ∷ fits loneSize (outline 64_000 64_000) (face 1 1 1 1) (1 ∷ 0 ∷ 0 ∷ 1 ∷ 1 ∷ [])
-    ∷ fits example (outline 64_000 64_000) (face 60 70 4_200 3) (1 ∷ 0 ∷ 0 ∷ 40 ∷ 60 ∷ 1 ∷ 40 ∷ 0 ∷ 30 ∷ 50 ∷ [])
-    ∷ fits example (outline 55 64_000) (face 40 110 4_400 3) (2 ∷ 0 ∷ 0 ∷ 60 ∷ 40 ∷ 2 ∷ 60 ∷ 0 ∷ 50 ∷ 30 ∷ [])
-    ∷ fits example (outline 40 110) (face 40 110 4_400 3) (2 ∷ 0 ∷ 0 ∷ 60 ∷ 40 ∷ 2 ∷ 60 ∷ 0 ∷ 50 ∷ 30 ∷ [])
-    ∷ fits example (outline 40 109) (noFace 19) []
-    ∷ fits equalAreas (outline 64_000 64_000) (face 60 40 2_400 2) (1 ∷ 0 ∷ 0 ∷ 40 ∷ 60 ∷ [])
-    ∷ lists printed (size 60 40 ∷ size 50 50 ∷ size 40 60 ∷ [])
-    ∷ fits printed (outline 64_000 64_000) (face 60 40 2_400 3) (2 ∷ 0 ∷ 0 ∷ 40 ∷ 60 ∷ [])
-    ∷ fits printed (outline 55 55) (face 50 50 2_500 3) (8 ∷ 0 ∷ 0 ∷ 50 ∷ 50 ∷ [])
-    ∷ fits printed (outline 45 64_000) (face 40 60 2_400 3) (1 ∷ 0 ∷ 0 ∷ 60 ∷ 40 ∷ [])
-    ∷ lists printedPair (size 60 70 ∷ size 50 80 ∷ size 40 110 ∷ [])
-    ∷ fits printedPair (outline 64_000 64_000) (face 50 80 4_000 3) (8 ∷ 0 ∷ 0 ∷ 50 ∷ 50 ∷ 2 ∷ 50 ∷ 0 ∷ 30 ∷ 50 ∷ [])
+    lists example 0 (size 60 70 ∷ size 50 90 ∷ size 40 110 ∷ [])
+    ∷ lists stackedInstead 0 (size 110 40 ∷ size 90 50 ∷ size 70 60 ∷ [])
+    ∷ lists equalHeights 0 (size 60 70 ∷ [])
+    ∷ fits loneSize 0 (outline 64_000 64_000) (face 1 1 1 1) (1 ∷ 0 ∷ 0 ∷ 1 ∷ 1 ∷ [])
+    ∷ fits example 0 (outline 64_000 64_000) (face 60 70 4_200 3) (1 ∷ 0 ∷ 0 ∷ 40 ∷ 60 ∷ 1 ∷ 40 ∷ 0 ∷ 30 ∷ 50 ∷ [])
+    ∷ fits example 0 (outline 55 64_000) (face 40 110 4_400 3) (2 ∷ 0 ∷ 0 ∷ 60 ∷ 40 ∷ 2 ∷ 60 ∷ 0 ∷ 50 ∷ 30 ∷ [])
+    ∷ fits example 0 (outline 40 110) (face 40 110 4_400 3) (2 ∷ 0 ∷ 0 ∷ 60 ∷ 40 ∷ 2 ∷ 60 ∷ 0 ∷ 50 ∷ 30 ∷ [])
+    ∷ fits example 0 (outline 40 109) (noFace 19) []
+    ∷ fits equalAreas 0 (outline 64_000 64_000) (face 60 40 2_400 2) (1 ∷ 0 ∷ 0 ∷ 40 ∷ 60 ∷ [])
+    ∷ lists printed 0 (size 60 40 ∷ size 50 50 ∷ size 40 60 ∷ [])
+    ∷ fits printed 0 (outline 64_000 64_000) (face 60 40 2_400 3) (2 ∷ 0 ∷ 0 ∷ 40 ∷ 60 ∷ [])
+    ∷ fits printed 0 (outline 55 55) (face 50 50 2_500 3) (8 ∷ 0 ∷ 0 ∷ 50 ∷ 50 ∷ [])
+    ∷ fits printed 0 (outline 45 64_000) (face 40 60 2_400 3) (1 ∷ 0 ∷ 0 ∷ 60 ∷ 40 ∷ [])
+    ∷ lists printedPair 0 (size 60 70 ∷ size 50 80 ∷ size 40 110 ∷ [])
+    ∷ fits printedPair 0 (outline 64_000 64_000) (face 50 80 4_000 3) (8 ∷ 0 ∷ 0 ∷ 50 ∷ 50 ∷ 2 ∷ 50 ∷ 0 ∷ 30 ∷ 50 ∷ [])
+    ∷ lists example 5 (size 60 75 ∷ size 50 95 ∷ size 40 115 ∷ [])
+    ∷ lists stackedInstead 5 (size 115 40 ∷ size 95 50 ∷ size 75 60 ∷ [])
+    ∷ fits example 5 (outline 65_260 65_260) (face 60 75 4_500 3) (1 ∷ 0 ∷ 0 ∷ 40 ∷ 60 ∷ 1 ∷ 45 ∷ 0 ∷ 30 ∷ 50 ∷ [])
+    ∷ fits example 5 (outline 40 115) (face 40 115 4_600 3) (2 ∷ 0 ∷ 0 ∷ 60 ∷ 40 ∷ 2 ∷ 65 ∷ 0 ∷ 50 ∷ 30 ∷ [])
+    ∷ fits example 5 (outline 40 114) (noFace 19) []
+    ∷ lists largestRow 0 (size 1_000 64_000 ∷ [])
+    ∷ lists largestRow 20 (size 1_000 65_260 ∷ [])
+    ∷ asks 20 (outline 65_260 65_260) 0 0
+    ∷ asks 21 (outline 65_260 65_260) 22 22
+    ∷ asks 0 (outline 65_260 65_260) 0 0
+    ∷ asks 20 (outline 65_261 65_260) 0 16
+    ∷ asks 20 (outline 65_260 65_261) 0 16
+    ∷ asks 21 (outline 65_261 65_260) 22 22
     ∷ tops (lopsided 7 15) 127 1
     ∷ tops (lopsided 8 15) 128 2
     ∷ tops (lopsided 7 63) 511 2
@@ -162,5 +200,5 @@ rows =
     ∷ []
 
 pub rows-hold : all holds rows ≡ true
-unfolding header sizesAfter sizesFrom gaugeSizes gaugeEntry joinParts joinEntry kindEntry entry entries onePart atEnd faceOf merge turn gaugeShapes shapes smallest noTaller indexOf place listWords writtenOver timesFour uncutLevel largestPower topLevel word nextWith lastWith sumFrom trueP held walk linksRight linked falling lazyList readItem
+unfolding levelCount levelRange levelsLent ribGiven openingGiven buffersLent outputLent listAsks fitAsks header sizesAfter sizesFrom gaugeSizes gaugeEntry joinParts joinEntry kindEntry entry entries onePart atEnd faceOf merge turn gaugeShapes shapes smallest noTaller indexOf place listWords writtenOver timesFour uncutLevel largestPower topLevel word nextWith lastWith sumFrom trueP held walk linksRight linked falling lazyList readItem
 rows-hold = refl

@@ -31,25 +31,25 @@ use Rattle.writing.specs.Words.{listWords}
 use Rattle.writing.specs.inside.Writing.{Listable}
 use Rattle.shapes.specs.inside.Taken.{Writable, WroteFace, Wrote}
 
-by-height : (t : Tree) → (kindOf t ≡ 0x03 → ⊥) → items (partRecorded 0 1 t) ≡ shapes 0 t
-by-height (gauge s) other = ap items (part-gauge 0 1 s) ∙ items-shapes 0 1 (gauge s)
-by-height (beside a b) other = ap items (part-beside 0 1 a b) ∙ items-shapes 0 1 (beside a b)
-by-height (stacked a b) other = absurd (other refl)
+by-height : (gap : ℕ) (t : Tree) → (kindOf t ≡ 0x03 → ⊥) → items (partRecorded gap 1 t) ≡ shapes gap t
+by-height gap (gauge s) other = ap items (part-gauge gap 1 s) ∙ items-shapes gap 1 (gauge s)
+by-height gap (beside a b) other = ap items (part-beside gap 1 a b) ∙ items-shapes gap 1 (beside a b)
+by-height gap (stacked a b) other = absurd (other refl)
 
-by-width : (t : Tree) → kindOf t ≡ 0x03 → turn (items (partRecorded 0 1 t)) ≡ shapes 0 t
-by-width (gauge s) e = absurd (omega arith)
-by-width (beside a b) e = absurd (omega arith)
-by-width (stacked a b) e =
-    sym (items-turn (partRecorded 0 1 (stacked a b))) ∙ ap items (sym (shapes-stacked 0 1 a b)) ∙ items-shapes 0 1 (stacked a b)
+by-width : (gap : ℕ) (t : Tree) → kindOf t ≡ 0x03 → turn (items (partRecorded gap 1 t)) ≡ shapes gap t
+by-width gap (gauge s) e = absurd (omega arith)
+by-width gap (beside a b) e = absurd (omega arith)
+by-width gap (stacked a b) e =
+    sym (items-turn (partRecorded gap 1 (stacked a b))) ∙ ap items (sym (shapes-stacked gap 1 a b)) ∙ items-shapes gap 1 (stacked a b)
 
-module _ (file levels a b out : List ℕ) (kind : ℕ) (t : Tree) (face : faceOf file ≡ taken t) (w : Whole file levels a b kind t) where
+module _ (file levels : List ℕ) (rib : ℕ) (a b out : List ℕ) (kind : ℕ) (t : Tree) (face : faceOf file ≡ taken t) (w : Whole file levels rib a b kind t) where
   abbrev list : List ℕ
   list = w .part .list
 
   few : length list + gaugeCount t ≤ sizeCount t + 1
   few =
-      let same = part-length levels b b 0 1 (1 + sizeCount t) (partRecorded 0 1 t) (w .part) in
-      let short = part-few 0 1 t (face-taken file t face .good) in
+      let same = part-length levels b b 0 1 (1 + sizeCount t) (partRecorded rib 1 t) (w .part) in
+      let short = part-few rib 1 t (face-taken file t face .good) in
       omega arith
 
   few-records : length list ≤ 512
@@ -61,34 +61,34 @@ module _ (file levels a b out : List ℕ) (kind : ℕ) (t : Tree) (face : faceOf
       let least = face-taken file t face .least in
       record { linked = w .part .built .linked; few = few-records; room = omega arith }
 
-  pub root-list : RootList levels b t
+  pub root-list : RootList levels rib b t
   root-list =
       let most = face-taken file t face .most in
       record {
         holds =
             holds-lazy b list (w .part .built .linked) (all-map list (λ x i. let u = i .1 in omega arith) (w .part .inside)) few-records
-            (subst (λ (l : List Recorded). Ordered (items l)) (sym (w .part .holds)) (part-ordered 0 1 t (face-taken file t face .good)))
+            (subst (λ (l : List Recorded). Ordered (items l)) (sym (w .part .holds)) (part-ordered rib 1 t (face-taken file t face .good)))
             ∙ ap taken (w .part .holds);
-        level-is = part-level levels b 0 1 (1 + sizeCount t) (partRecorded 0 1 t) (w .part);
+        level-is = part-level levels b 0 1 (1 + sizeCount t) (partRecorded rib 1 t) (w .part);
       }
 
   -- What each way of writing leaves.
   module _ (count : ℕ) (out' : List ℕ) (counted : count ≡ length list) where
-    length-shapes : (l : List Item) → l ≡ shapes 0 t → length l ≡ length list → count ≡ length (shapes 0 t)
+    length-shapes : (l : List Item) → l ≡ shapes rib t → length l ≡ length list → count ≡ length (shapes rib t)
     length-shapes l e n = counted ∙ sym n ∙ ap length e
 
-    wrote-height : (kind ≡ 0x03 → ⊥) → out' ≡ writtenOver (listWords (items (held b 0 [] list))) out → WroteFace levels out b out' count t
+    wrote-height : (kind ≡ 0x03 → ⊥) → out' ≡ writtenOver (listWords (items (held b 0 [] list))) out → WroteFace levels rib out b out' count t
     wrote-height other e =
-        let same : items (held b 0 [] list) ≡ shapes 0 t = ap items (w .part .holds) ∙ by-height t (λ k. other (w .kind-is ∙ k)) in
+        let same : items (held b 0 [] list) ≡ shapes rib t = ap items (w .part .holds) ∙ by-height rib t (λ k. other (w .kind-is ∙ k)) in
         record {
           counted = length-shapes (items (held b 0 [] list)) same (length-map (held b 0 [] list) (λ (r : Recorded). r .item) ∙ held-length b 0 [] list);
           output = e ∙ ap (λ (l : List Item). writtenOver (listWords l) out) same;
           root = root-list;
         }
 
-    wrote-width : kind ≡ 0x03 → out' ≡ writtenOver (listWords (turn (items (held b 0 [] list)))) out → WroteFace levels out b out' count t
+    wrote-width : kind ≡ 0x03 → out' ≡ writtenOver (listWords (turn (items (held b 0 [] list)))) out → WroteFace levels rib out b out' count t
     wrote-width stack e =
-        let same : turn (items (held b 0 [] list)) ≡ shapes 0 t = ap (λ (l : List Recorded). turn (items l)) (w .part .holds) ∙ by-width t (sym (w .kind-is) ∙ stack) in
+        let same : turn (items (held b 0 [] list)) ≡ shapes rib t = ap (λ (l : List Recorded). turn (items l)) (w .part .holds) ∙ by-width rib t (sym (w .kind-is) ∙ stack) in
         record {
           counted = length-shapes (turn (items (held b 0 [] list))) same (turn-length (items (held b 0 [] list)) ∙ length-map (held b 0 [] list) (λ (r : Recorded). r .item) ∙ held-length b 0 [] list);
           output = e ∙ ap (λ (l : List Item). writtenOver (listWords l) out) same;
@@ -96,36 +96,36 @@ module _ (file levels a b out : List ℕ) (kind : ℕ) (t : Tree) (face : faceOf
         }
 
 -- The calls of the function, and its two ways out.
-module _ (file levels a b out : List ℕ) (kind : ℕ) (whole : (t : Tree) → faceOf file ≡ taken t → Whole file levels a b kind t) where
-  pub writes-ready : Writable file levels a out → (rs : List ℕ) × Listable b 0 rs out
+module _ (file levels : List ℕ) (rib : ℕ) (a b out : List ℕ) (kind : ℕ) (whole : (t : Tree) → faceOf file ≡ taken t → Whole file levels rib a b kind t) where
+  pub writes-ready : Writable file levels rib a out → (rs : List ℕ) × Listable b 0 rs out
   writes-ready p =
       let t = p .ready .tree in
       let face = p .ready .face in
       let w = whole t face in
-      (w .part .list, root-listable file levels a b out kind t face w (p .room))
+      (w .part .list, root-listable file levels rib a b out kind t face w (p .room))
 
-  pub writes-few : Writable file levels a out → (count : ℕ) → ((rs : List ℕ) → Listable b 0 rs out → count ≡ length rs) → count ≤ 512
+  pub writes-few : Writable file levels rib a out → (count : ℕ) → ((rs : List ℕ) → Listable b 0 rs out → count ≡ length rs) → count ≤ 512
   writes-few p count counted =
       let ready = writes-ready p in
       let e = counted (ready .0) (ready .1) in
       let few = ready .1 .few in
       omega arith
 
-  module _ (p : Writable file levels a out) (count : ℕ) (out' : List ℕ) where
+  module _ (p : Writable file levels rib a out) (count : ℕ) (out' : List ℕ) where
     same-room : (t : Tree) → faceOf file ≡ taken t → 2 * (sizeCount t - gaugeCount t + 1) ≤ length out
     same-room t e =
         subst (λ (x : Tree). 2 * (sizeCount x - gaugeCount x + 1) ≤ length out) (same-taken (p .ready .tree) t (sym (p .ready .face) ∙ e)) (p .room)
 
-    pub writes-height : (kind ≡ 0x03 → ⊥) → ((rs : List ℕ) → Listable b 0 rs out → (count ≡ length rs) × (out' ≡ writtenOver (listWords (items (held b 0 [] rs))) out)) → Wrote file levels out b out' count
+    pub writes-height : (kind ≡ 0x03 → ⊥) → ((rs : List ℕ) → Listable b 0 rs out → (count ≡ length rs) × (out' ≡ writtenOver (listWords (items (held b 0 [] rs))) out)) → Wrote file levels rib out b out' count
     unfolding Wrote
     writes-height other written t e =
         let w = whole t e in
-        let r = written (w .part .list) (root-listable file levels a b out kind t e w (same-room t e)) in
-        wrote-height file levels a b out kind t e w count out' (r .0) other (r .1)
+        let r = written (w .part .list) (root-listable file levels rib a b out kind t e w (same-room t e)) in
+        wrote-height file levels rib a b out kind t e w count out' (r .0) other (r .1)
 
-    pub writes-width : kind ≡ 0x03 → ((rs : List ℕ) → Listable b 0 rs out → (count ≡ length rs) × (out' ≡ writtenOver (listWords (turn (items (held b 0 [] rs)))) out)) → Wrote file levels out b out' count
+    pub writes-width : kind ≡ 0x03 → ((rs : List ℕ) → Listable b 0 rs out → (count ≡ length rs) × (out' ≡ writtenOver (listWords (turn (items (held b 0 [] rs)))) out)) → Wrote file levels rib out b out' count
     unfolding Wrote
     writes-width stack written t e =
         let w = whole t e in
-        let r = written (w .part .list) (root-listable file levels a b out kind t e w (same-room t e)) in
-        wrote-width file levels a b out kind t e w count out' (r .0) stack (r .1)
+        let r = written (w .part .list) (root-listable file levels rib a b out kind t e w (same-room t e)) in
+        wrote-width file levels rib a b out kind t e w count out' (r .0) stack (r .1)

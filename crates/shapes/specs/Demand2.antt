@@ -1,4 +1,4 @@
--- Demand 2 of what the list call leaves, in the demand's own order.
+-- Demand 2 of what the list call leaves, in the demand's own order, with document 02's rib: "the outer sizes are the merge with the rib added to each sum".
 use mathlib.Core.Path.{_≡_}
 use mathlib.Core.List.{List}
 use Prim.Native.Nat.{ℕ, _+_, _*_, _≤_}
@@ -23,14 +23,14 @@ asHeld (beside a b) l = l
 asHeld (stacked a b) l = turn l
 
 -- What a taken call leaves of the face t.
-pub record ListMeans (levels : List ℕ) (old : Lent) (r : Listed) (new : Lent) (t : Tree) : Type 0 where
+pub record ListMeans (levels : List ℕ) (rib : ℕ) (old : Lent) (r : Listed) (new : Lent) (t : Tree) : Type 0 where
   -- "The list of outer sizes is the maxplus merge of Stockmeyer, as Chen and Zhou state it, carried up the tree": this list stands in the output, and the count is its length.
   pub list : List Item
-  pub merged : list ≡ shapes 0 t
+  pub merged : list ≡ shapes rib t
   pub written : new .output ≡ writtenOver (listWords list) (old .output)
   pub counted : r .count ≡ length list
   -- "Each item comes from one choice of size per gauge. Each choice is met by an item no taller and no wider. Heights fall and widths rise strictly down the list."
-  pub outer : OuterSizes 0 t list
+  pub outer : OuterSizes rib t list
   -- "With n sizes and g gauges it has at most n - g + 1 items."
   pub short : length list + gaugeCount t ≤ sizeCount t + 1
   -- "The lazy lists give that same list": the arena holds a lazy list, whose items are the list's.
@@ -38,9 +38,9 @@ pub record ListMeans (levels : List ℕ) (old : Lent) (r : Listed) (new : Lent) 
   pub holds : lazyList (new .arena) ≡ taken held
   pub same-list : items held ≡ asHeld t list
   -- With each item's record and its lent level.
-  pub root : RootList levels (new .arena) t
+  pub root : RootList levels rib (new .arena) t
 
--- "under every table of levels from 1 to 8": what two taken calls on one face leave is alike, whatever their levels and buffers.
+-- "under every table of levels from 1 to 8": what two taken calls on one face with one rib leave is alike, whatever their levels and buffers.
 pub record ListsAlike (r : Listed) (new : Lent) (r₂ : Listed) (new₂ : Lent) : Type 0 where
   pub same-count : r .count ≡ r₂ .count
   pub same-output : take (2 * r .count) (new .output) ≡ take (2 * r₂ .count) (new₂ .output)

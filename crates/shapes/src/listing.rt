@@ -13,47 +13,57 @@ use parts::build::build;
 use writing::write::write_by_height;
 use writing::write::write_by_width;
 
-// Checks 14 to 18, of the levels and of the lengths of the lent buffers: the number of the first that fails, or 0.
+// Checks 14, 15, 22, 17 and 18, of the levels, the rib and the lengths of the lent buffers: the number of the first that
+// fails, or 0.
 fn asked_number(
     n: usize,
     g: usize,
     levels: &[u8],
+    rib: u32,
     arena: usize,
     scratch: usize,
     output: usize,
 ) -> u32
     requires { ⌜ (g ≤ n) × (n ≤ mostSizes) ⌝ }
-    ensures { λ r. ⌜ r ≡ number (listAsks n g (now (levels .entry)) arena scratch output) ⌝ }
+    ensures { λ r. ⌜ r ≡ number (listAsks n g (now (levels .entry)) rib arena scratch output) ⌝ }
 {
     let buffers = lent::buffers_number(WORDS, arena, scratch);
     let room = lent::output_number(2 * (n - g + 1), output);
     let words = checks::first_no(buffers, room);
-    checks::first_no(lent::levels_number(n, levels), words)
+    let given = checks::first_no(lent::rib_number(rib), words);
+    checks::first_no(lent::levels_number(n, levels), given)
 }
 
-// The list of a face that is taken, in the arena and in the output. Answers the item count. It is for callers that have
-// made the checks of the list call.
-pub fn write_list(file: &[u8], levels: &[u8], arena: &mut [u32], output: &mut [u32]) -> u32
-    requires { ⌜ Writable (now file) (now levels) (now arena) (now output) ⌝ }
-    ensures { λ count. ⌜ Wrote (now (file .entry)) (now (levels .entry)) (now (output .entry)) (now (arena .exit)) (now (output .exit)) count ⌝ }
+// The list of a face that is taken, with a rib at each join, in the arena and in the output. Answers the item count. It is
+// for callers that have made the checks of the list call.
+pub fn write_list(
+    file: &[u8],
+    levels: &[u8],
+    rib: u32,
+    arena: &mut [u32],
+    output: &mut [u32],
+) -> u32
+    requires { ⌜ Writable (now file) (now levels) rib (now arena) (now output) ⌝ }
+    ensures { λ count. ⌜ Wrote (now (file .entry)) (now (levels .entry)) rib (now (output .entry)) (now (arena .exit)) (now (output .exit)) count ⌝ }
 {
-    let kind = build(file, levels, arena);
+    let kind = build(file, levels, rib, arena);
     if kind == entries::STACKED {
         return write_by_width(arena, 0, output) as u32;
     }
     write_by_height(arena, 0, output) as u32
 }
 
-// Checks 1 to 18 but 16, then the outer sizes of the face in the output and in the arena. A refusal leaves every lent
-// buffer as it was.
+// Checks 1 to 18 but 16, with 22 right after 15, then the outer sizes of the face, with a rib between the parts of each
+// join, in the output and in the arena. A refusal leaves every lent buffer as it was.
 pub fn list(
     file: &[u8],
     levels: &[u8],
+    rib: u32,
     arena: &mut [u32],
     scratch: &mut [u32],
     output: &mut [u32],
 ) -> Listed
-    ensures { λ r. ⌜ ListPromise (faceOf (now (file .entry))) (now (levels .entry)) (lent (now (arena .entry)) (now (scratch .entry)) (now (output .entry))) r (lent (now (arena .exit)) (now (scratch .exit)) (now (output .exit))) ⌝ }
+    ensures { λ r. ⌜ ListPromise (faceOf (now (file .entry))) (now (levels .entry)) rib (lent (now (arena .entry)) (now (scratch .entry)) (now (output .entry))) r (lent (now (arena .exit)) (now (scratch .exit)) (now (output .exit))) ⌝ }
 {
     let face = facefile::read(file);
     if face.number != checks::TAKEN {
@@ -63,6 +73,7 @@ pub fn list(
         face.sizes,
         face.gauges,
         levels,
+        rib,
         arena.len(),
         scratch.len(),
         output.len(),
@@ -72,7 +83,7 @@ pub fn list(
     }
     Listed {
         number: checks::TAKEN,
-        count: write_list(file, levels, arena, output),
+        count: write_list(file, levels, rib, arena, output),
     }
 }
 

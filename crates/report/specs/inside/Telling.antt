@@ -28,6 +28,6 @@ pub record Levelled (file levels : List ℕ) (gauges : ℕ) : Type 0 where
 
 -- Of the face t, what placing it in the opening answered, the length of its list, and what stands from the start of the outputs of its list and of its layout.
 pub record Worked (t : Tree) (face : Fitted) (count : ℕ) (items : List ℕ) (gauges : ℕ) (layout : List ℕ) : Type 0 where
-  pub fitted-is : face ≡ faceFound t (smallest widest (shapes 0 t))
+  pub fitted-is : face ≡ faceFound 0 t (smallest widest (shapes 0 t))
   pub listed : take (2 * count) items ≡ listWords (shapes 0 t)
   pub laid : (z : Item) → smallest widest (shapes 0 t) ≡ picked z → take (5 * gauges) layout ≡ words t (place 0 t z 0 0)

@@ -24,11 +24,17 @@ output-number-requires c κs = search needs
 first-no-requires : tie.Need-first-no-requires
 first-no-requires c κs = search needs
 
-levels-number-requires : tie.Need-levels-number-requires
-levels-number-requires c κs = search needs
+rib-number-requires : tie.Need-rib-number-requires
+rib-number-requires c κs = search needs
 
 first-no-requires-2 : tie.Need-first-no-requires-2
 first-no-requires-2 c κs = search needs
+
+levels-number-requires : tie.Need-levels-number-requires
+levels-number-requires c κs = search needs
+
+first-no-requires-3 : tie.Need-first-no-requires-3
+first-no-requires-3 c κs = search needs
 
 returns : tie.Need-returns
 unfolding listAsks
@@ -44,6 +50,8 @@ asked-number-spec =
     mul-output-number
     output-number-requires
     first-no-requires
-    levels-number-requires
+    rib-number-requires
     first-no-requires-2
+    levels-number-requires
+    first-no-requires-3
     returns)

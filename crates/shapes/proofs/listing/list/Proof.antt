@@ -17,7 +17,7 @@ refused-requires c κs = search needs
 returns : tie.Need-returns
 returns c =
     let at-read = c .before .before .before in
-    list-file _ _ _ _ _ _ (at-read .read .ensures) (c .before .if1 .taken) _ (c .refused .ensures)
+    list-file _ _ _ _ _ _ _ (at-read .read .ensures) (c .before .if1 .taken) _ (c .refused .ensures)
 
 asked-number-requires : tie.Need-asked-number-requires
 asked-number-requires c κs =
@@ -30,7 +30,7 @@ returns-2 : tie.Need-returns-2
 returns-2 c =
     let at-if1 = c .before .before .before in
     let at-read = at-if1 .before .before in
-    list-asked _ _ _ _ _ _ (at-read .read .ensures) (at-if1 .if1 .left) _ (c .before .before .asked-number .ensures) (λ e. let t = c .before .if2 .taken in omega arith) _ (c .refused2 .ensures)
+    list-asked _ _ _ _ _ _ _ (at-read .read .ensures) (at-if1 .if1 .left) _ (c .before .before .asked-number .ensures) (λ e. let t = c .before .if2 .taken in omega arith) _ (c .refused2 .ensures)
 
 write-list-requires : tie.Need-write-list-requires
 write-list-requires c κs =
@@ -38,7 +38,7 @@ write-list-requires c κs =
     let at-if1 = at-asked-number .before in
     let at-read = at-if1 .before .before in
     let start = at-read .before .before .before .before .before .before in
-    list-writable _ _ _ (start .args .scratch .now) _ _ (at-read .read .ensures) (at-if1 .if1 .left) _ (at-asked-number .asked-number .ensures) (let t = c .before .before .if2 .left in omega arith)
+    list-writable _ _ _ _ (start .args .scratch .now) _ _ (at-read .read .ensures) (at-if1 .if1 .left) _ (at-asked-number .asked-number .ensures) (let t = c .before .before .if2 .left in omega arith)
 
 same-length : tie.Need-same-length
 same-length c = search needs
@@ -53,7 +53,7 @@ returns-3 c =
     let at-asked-number = at-if2 .before in
     let at-if1 = at-asked-number .before in
     let at-read = at-if1 .before .before in
-    list-done _ _ _ _ _ _ (at-read .read .ensures) (at-if1 .if1 .left) _ (at-asked-number .asked-number .ensures) (let t = at-if2 .if2 .left in omega arith) _ _ _ _ _ (at-write-list .write-list .ensures) refl
+    list-done _ _ _ _ _ _ _ (at-read .read .ensures) (at-if1 .if1 .left) _ (at-asked-number .asked-number .ensures) (let t = at-if2 .if2 .left in omega arith) _ _ _ _ _ (at-write-list .write-list .ensures) refl
 
 pub list-spec : {M : Type 1} → statement M
 list-spec =

@@ -13,13 +13,13 @@ write-by-width-requires : tie.Need-write-by-width-requires
 write-by-width-requires c κs =
     let at-build = c .before .before .before .before .before in
     let entry = at-build .before .before .before .before .before .before in
-    writes-ready _ _ _ _ _ _ (at-build .build .ensures) (entry .pre)
+    writes-ready _ _ _ _ _ _ _ (at-build .build .ensures) (entry .pre)
 
 cast-result : tie.Need-cast-result
 cast-result c =
     let at-build = c .before .before .before .before .before .before .before .before in
     let entry = at-build .before .before .before .before .before .before in
-    record { fits = let few = writes-few _ _ _ _ _ _ (at-build .build .ensures) (entry .pre) _ (λ rs l. c .before .before .write-by-width .ensures rs l .0) in omega arith }
+    record { fits = let few = writes-few _ _ _ _ _ _ _ (at-build .build .ensures) (entry .pre) _ (λ rs l. c .before .before .write-by-width .ensures rs l .0) in omega arith }
 
 same-length : tie.Need-same-length
 same-length c = search needs
@@ -32,19 +32,19 @@ returns c =
     let at-if1 = c .before .before .before .before .before in
     let at-build = at-if1 .before .before .before in
     let entry = at-build .before .before .before .before .before .before in
-    writes-width _ _ _ _ _ _ (at-build .build .ensures) (entry .pre) _ _ (let t = at-if1 .if1 .taken in omega arith) (c .before .before .write-by-width .ensures)
+    writes-width _ _ _ _ _ _ _ (at-build .build .ensures) (entry .pre) _ _ (let t = at-if1 .if1 .taken in omega arith) (c .before .before .write-by-width .ensures)
 
 write-by-height-requires : tie.Need-write-by-height-requires
 write-by-height-requires c κs =
     let at-build = c .before .before .before .before .before in
     let entry = at-build .before .before .before .before .before .before in
-    writes-ready _ _ _ _ _ _ (at-build .build .ensures) (entry .pre)
+    writes-ready _ _ _ _ _ _ _ (at-build .build .ensures) (entry .pre)
 
 cast-result-2 : tie.Need-cast-result-2
 cast-result-2 c =
     let at-build = c .before .before .before .before .before .before .before .before in
     let entry = at-build .before .before .before .before .before .before in
-    record { fits = let few = writes-few _ _ _ _ _ _ (at-build .build .ensures) (entry .pre) _ (λ rs l. c .before .before .write-by-height .ensures rs l .0) in omega arith }
+    record { fits = let few = writes-few _ _ _ _ _ _ _ (at-build .build .ensures) (entry .pre) _ (λ rs l. c .before .before .write-by-height .ensures rs l .0) in omega arith }
 
 same-length-3 : tie.Need-same-length-3
 same-length-3 c = search needs
@@ -57,7 +57,7 @@ returns-2 c =
     let at-if1 = c .before .before .before .before .before in
     let at-build = at-if1 .before .before .before in
     let entry = at-build .before .before .before .before .before .before in
-    writes-height _ _ _ _ _ _ (at-build .build .ensures) (entry .pre) _ _ (λ e. let t = at-if1 .if1 .left in omega arith) (c .before .before .write-by-height .ensures)
+    writes-height _ _ _ _ _ _ _ (at-build .build .ensures) (entry .pre) _ _ (λ e. let t = at-if1 .if1 .left in omega arith) (c .before .before .write-by-height .ensures)
 
 pub write-list-spec : {M : Type 1} → statement M
 write-list-spec =
