@@ -6,10 +6,10 @@ with its name; of crates/faces and crates/faces_long some faces.
     python3 tools/make_cases.py --check    writes nothing, and says whether they are as it would write them
 
 tools/making/ has the files: for the reader and the levels (face_files.py), the list call (list_files.py), the fit call
-(fit_files.py), the text of `faces` (text_files.py), and all of these in version 2 (printed_files.py); the calls that are made
-on each file (calls.py); the arenas of the reading call (arenas.py); pseudo-random cases (random_cases.py); and what `faces` is
-run on (faces_inputs.py). What is expected comes from the models. It stops where they and an answer that was worked out by
-hand differ.
+(fit_files.py), the text of `faces` (text_files.py), all of these in version 2 (printed_files.py), and the list and fit calls
+with ribs (rib_files.py); the calls that are made on each file (calls.py, with ribs rib_calls.py); the arenas of the reading
+call (arenas.py); pseudo-random cases (random_cases.py); and what `faces` is run on (faces_inputs.py). What is expected comes
+from the models. It stops where they and an answer that was worked out by hand differ.
 """
 
 import collections
@@ -18,10 +18,11 @@ import sys
 
 sys.dont_write_bytecode = True
 
-from making import arenas, calls, face_files, faces_inputs, fit_files, list_files, printed_files, random_cases, text_files
+from making import arenas, calls, face_files, faces_inputs, fit_files, list_files, printed_files, random_cases
+from making import rib_calls, rib_files, text_files
 
 CRATES = pathlib.Path(__file__).resolve().parent.parent / "crates"
-SETS = [face_files, list_files, fit_files, text_files, printed_files]
+SETS = [face_files, list_files, fit_files, text_files, printed_files, rib_files]
 
 # How many pseudo-random cases are stored, and where their row starts.
 RANDOM = 300
@@ -65,6 +66,7 @@ def file_cases():
             found += calls.text_calls(name, file)
         if file in in_version_2:
             found += calls.printed_calls(name, file, in_version_2[file])
+        found += rib_calls.cases(name, file)
     return found
 
 

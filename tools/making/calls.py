@@ -1,11 +1,13 @@
 """The calls that are made on each stored file. A call is given what a right one is, but for what its name says."""
 
 from making.case import LONGER, TEXT, TEXT_LEAST, file_case, fit_case, gauge_case, levels_case, list_case, text_case
-from models import face_model, fit_model, list_model
+from models import face_model, fit_model, list_model, text_model
 
 WORDS = list_model.WORDS
 SHORT = WORDS - 1
-LARGEST = fit_model.OPENING
+
+# The opening that `faces` fits to. No face without ribs is larger.
+LARGEST = text_model.OPENING
 
 
 def scattered(size):
@@ -78,7 +80,7 @@ class ListCalls:
     def call(self, what, table=None, arena=WORDS, scratch=WORDS, output=None):
         table = self.levels.ones if table is None else table
         output = self.need if output is None else output
-        self.found.append(list_case(f"{self.name}, list, {what}", self.file, table, arena, scratch, output))
+        self.found.append(list_case(f"{self.name}, list, {what}", self.file, table, 0, arena, scratch, output))
 
     def under_each_table(self):
         """Calls that are taken, under each table of levels."""
@@ -126,7 +128,7 @@ def fit_calls(name, file, openings):
     found = []
 
     def call(what, table=levels.ones, opening=(LARGEST, LARGEST), arena=WORDS, scratch=WORDS, output=need):
-        found.append(fit_case(f"{name}, fit, {what}", file, table, *opening, arena, scratch, output))
+        found.append(fit_case(f"{name}, fit, {what}", file, table, 0, *opening, arena, scratch, output))
 
     call("all 1, exact output")
     call("all 8", levels.eights, output=need + 4)
@@ -135,7 +137,7 @@ def fit_calls(name, file, openings):
     call("scattered, 1 by 1", levels.scattered, (1, 1), output=need + 4)
     for what, table in levels.wrong().items():
         call(what, table)
-    for length in (0, 64001, 65536, 4294967295):
+    for length in (0, fit_model.OPENING + 1, 65536, 4294967295):
         call(f"height {length}", opening=(length, LARGEST))
         call(f"width {length}", opening=(LARGEST, length))
     call("0 by 64001", opening=(0, 64001))
@@ -147,7 +149,7 @@ def fit_calls(name, file, openings):
     call("no output", output=0)
     call("14 to 18 fail", [9] * (sizes + 1), (0, 0), SHORT, SHORT, need - 1)
     call("15 to 18 fail", levels.last_9, (0, 0), SHORT, SHORT, need - 1)
-    call("16 to 18 fail", levels.ones, (64001, 1), SHORT, SHORT, need - 1)
+    call("16 to 18 fail", levels.ones, (fit_model.OPENING + 1, 1), SHORT, SHORT, need - 1)
     call("17 to 19 fail", levels.ones, (1, 1), SHORT, SHORT, need - 1)
     call("18 and 19 fail", levels.ones, (1, 1), output=need - 1)
     for opening in openings:
@@ -181,7 +183,7 @@ def printed_list_calls(name, file):
     """The calls on a face of version 2: under each table of levels, and those that are refused by 14, 15 and 18, which count
     every printed size."""
     calls = ListCalls(name, file)
-    listed = 2 * len(list_model.outer_sizes(file))
+    listed = 2 * len(list_model.outer_sizes(file, 0))
     calls.under_each_table()
     for what, table in printed_wrong(calls.face, calls.levels).items():
         calls.call(what, table)
@@ -200,7 +202,7 @@ def printed_fit_calls(name, file, openings):
     found = []
 
     def call(what, table, height=LARGEST, width=LARGEST):
-        found.append(fit_case(f"{name}, fit, {what}", file, table, height, width, WORDS, WORDS, need + 4))
+        found.append(fit_case(f"{name}, fit, {what}", file, table, 0, height, width, WORDS, WORDS, need + 4))
 
     call("all 1", levels.ones)
     call("all 8", levels.eights)
@@ -232,9 +234,9 @@ def refused_calls(name, file):
     """Each call on a file that the reader refuses: with levels, an opening and buffers that are right, and with all that
     can be wrong."""
     return [
-        list_case(f"{name}, list, 1 level", file, [1], WORDS, WORDS, 4),
-        list_case(f"{name}, list, all fail", file, [9, 9], SHORT, SHORT, 0),
-        fit_case(f"{name}, fit, 1 level", file, [1], LARGEST, LARGEST, WORDS, WORDS, 5),
-        fit_case(f"{name}, fit, all fail", file, [9, 9], 0, 0, SHORT, SHORT, 0),
+        list_case(f"{name}, list, 1 level", file, [1], 0, WORDS, WORDS, 4),
+        list_case(f"{name}, list, all fail", file, [9, 9], 21, SHORT, SHORT, 0),
+        fit_case(f"{name}, fit, 1 level", file, [1], 0, LARGEST, LARGEST, WORDS, WORDS, 5),
+        fit_case(f"{name}, fit, all fail", file, [9, 9], 21, 0, 0, SHORT, SHORT, 0),
         text_case(f"{name}, text", file, TEXT_LEAST),
     ]

@@ -115,19 +115,19 @@ def output_line(words):
 ALL_KEPT = "arena kept scratch kept output kept"
 
 
-def list_case(name, file, levels, arena, scratch, output):
-    listed = list_model.list_call(file, levels, arena, scratch, output)
+def list_case(name, file, levels, rib, arena, scratch, output):
+    listed = list_model.list_call(file, levels, rib, arena, scratch, output)
     answer = f"list {listed.number} {len(listed.items)}"
     if listed.number == 0:
         words = [word for item in listed.items for word in (item.height, item.width)]
         wanted = lines(answer, output_line(words), list_line(listed.walked))
     else:
         wanted = lines(answer, ALL_KEPT)
-    return Case(name, given("l", levels, 0, 0, arena, scratch, output), wanted)
+    return Case(name, given("l", levels, 0, 0, arena, scratch, output, rib), wanted)
 
 
-def fit_case(name, file, levels, height, width, arena, scratch, output):
-    fitted = fit_model.fit_call(file, levels, height, width, arena, scratch, output)
+def fit_case(name, file, levels, rib, height, width, arena, scratch, output):
+    fitted = fit_model.fit_call(file, levels, rib, height, width, arena, scratch, output)
     answer = "fit" + row(fitted.fields())
     if fitted.number == 0:
         wanted = lines(answer, output_line(fitted.words), list_line(fitted.walked))
@@ -135,7 +135,7 @@ def fit_case(name, file, levels, height, width, arena, scratch, output):
         wanted = lines(answer, "output kept", list_line(fitted.walked))
     else:
         wanted = lines(answer, ALL_KEPT)
-    return Case(name, given("f", levels, height, width, arena, scratch, output), wanted)
+    return Case(name, given("f", levels, height, width, arena, scratch, output, rib), wanted)
 
 
 def text_case(name, file, room):
@@ -154,13 +154,13 @@ def replaced(words):
     return found
 
 
-def read_case(name, arena, place, words, levels=b""):
+def read_case(name, arena, place, words, levels=b"", rib=0):
     """The reading call on an arena. These are the words of it that the case replaces: the model's has them already."""
     number, m, p = read_model.read_call(arena, place)
-    text = given("r", levels, arena.fill, place, arena.length, 0, 0, after=replaced(words))
+    text = given("r", levels, arena.fill, place, arena.length, 0, 0, rib, after=replaced(words))
     return Case(name, text, lines(f"read {number} {m} {p}"))
 
 
-def words_case(name, levels, length):
+def words_case(name, levels, rib, length):
     """So many words of the arena that the list call leaves. Some of them are free, so nothing is expected."""
-    return Case(name, given("d", levels, 0, 0, length), "")
+    return Case(name, given("d", levels, 0, 0, length, 0, 0, rib), "")

@@ -10,9 +10,10 @@ opening is small, over all places.
 from making import by_hand, list_files
 from making.by_hand import Stored
 from making.face_bytes import BESIDE, STACKED, face, gauge
-from models import face_model, fit_model, list_model
+from models import face_model, fit_model, list_model, text_model
 
-LARGEST = fit_model.OPENING
+# The opening that `faces` fits to. No face without ribs is larger.
+LARGEST = text_model.OPENING
 
 # By hand what openings give, by the name of a face. An opening is (height, width). What it gives is 19, or for each gauge
 # the number of its size, across and up.
@@ -178,7 +179,7 @@ fits(
     {(LARGEST, LARGEST): [(1, 0, 0), (1, 0, 20), (1, 50, 0)], (50, 58): [(1, 0, 0), (1, 0, 20), (1, 50, 0)], (50, 57): 19},
 )
 
-# --- The widest face and the highest: 64 gauges of 1,000 either way reach the largest opening.
+# --- The widest face and the highest without ribs: 64 gauges of 1,000 either way.
 LARGE = gauge((1000, 1000))
 WIDEST = [(1, 1000 * i, 0) for i in range(64)]
 HIGHEST = [(1, 0, 1000 * i) for i in range(64)]
@@ -239,7 +240,7 @@ def openings(stored):
     """Those with a hand-written answer, the largest, and those at items."""
     if stored.number != 0:
         return []
-    items = fit_model.root_part(stored.file).items
+    items = fit_model.root_part(stored.file, 0).items
     found = list(stored.answers) + [(LARGEST, LARGEST)]
     for item in some_items(items):
         h, w = item.height, item.width
@@ -261,7 +262,7 @@ PLACES = 200_000
 
 
 def in_range(opening):
-    return all(1 <= length <= LARGEST for length in opening)
+    return all(1 <= length <= fit_model.OPENING for length in opening)
 
 
 def by_hand_fault(stored, opening, fitted):
@@ -275,24 +276,24 @@ def by_hand_fault(stored, opening, fitted):
     return [f"{stored.name} in {opening}: by hand {stored.answers[opening]}, by the model {found}"]
 
 
-def least_faults(stored, face_read, opening, fitted):
+def least_faults(stored, face_read, opening, fitted, rib):
     """What all choices, and all places, say otherwise than the model on the least area in an opening."""
     area = None if fitted.number == 19 else fitted.area
     found = []
     if list_model.choices(face_read) <= CHOICES:
-        found.append(("choices", fit_model.best_by_choices(face_read, *opening)))
+        found.append(("choices", fit_model.best_by_choices(face_read, *opening, rib)))
     if max(opening) <= 12 and fit_model.places(face_read, *opening) <= PLACES:
-        found.append(("places", fit_model.best_by_places(face_read, *opening)))
+        found.append(("places", fit_model.best_by_places(face_read, *opening, rib)))
     return [f"{stored.name} in {opening}: the model {area}, all {what} {least}" for what, least in found if least != area]
 
 
-def opening_faults(stored, opening):
-    """What is wrong with the model's answer in an opening."""
+def opening_faults(stored, opening, rib=0):
+    """What is wrong with the model's answer in an opening, with a rib."""
     face_read = face_model.read(stored.file)
-    fitted = fit_model.fit_call(stored.file, [1] * face_read.size_count(), *opening)
+    fitted = fit_model.fit_call(stored.file, [1] * face_read.size_count(), rib, *opening)
     if not in_range(opening):
         return [] if fitted.number == 16 else [f"{stored.name} in {opening}: {fitted.number}"]
-    return by_hand_fault(stored, opening, fitted) + least_faults(stored, face_read, opening, fitted)
+    return by_hand_fault(stored, opening, fitted) + least_faults(stored, face_read, opening, fitted, rib)
 
 
 def taken_faults(stored):

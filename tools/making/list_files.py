@@ -185,11 +185,11 @@ refused("no-13-after-join", EXAMPLE + STACKED, 13, "File at its end? A join that
 # Model and hand-written answers
 
 
-def taken_faults(stored):
-    """What the model says of a taken face otherwise than the hand-written answer, or than all choices where they are
-    few."""
+def taken_faults(stored, rib=0):
+    """What the model says of a taken face, with a rib, otherwise than the hand-written answer, or than all choices where
+    they are few."""
     face_read = face_model.read(stored.file)
-    listed = list_model.list_call(stored.file, [1] * face_read.size_count())
+    listed = list_model.list_call(stored.file, [1] * face_read.size_count(), rib)
     items = [(item.height, item.width) for item in listed.items]
     found = {"items": items, "records": [walked.record for walked in listed.walked], "count": len(items)}
     faults = [
@@ -197,7 +197,7 @@ def taken_faults(stored):
         for what, answer in stored.answers.items()
         if answer is not None and answer != found[what]
     ]
-    if list_model.choices(face_read) <= 2000 and list_model.sizes_by_choices(face_read) != items:
+    if list_model.choices(face_read) <= 2000 and list_model.sizes_by_choices(face_read, rib) != items:
         faults.append(f"{stored.name}: the choices have another list than {items}")
     return faults
 

@@ -13,7 +13,7 @@ from making.gauges import all_printed, all_shuffled, any_gauge, any_gauges, any_
 from making.trees import Numbers, balanced, lopsided, mixed
 from models import fit_model, text_model
 
-LARGEST = fit_model.OPENING
+LARGEST = text_model.OPENING
 FILES = []
 
 
@@ -195,7 +195,7 @@ taken("printed-mixed-64", printed_tree(mixed(EIGHTS, Numbers(3))), "64 gauges of
 
 def openings(stored):
     """The largest one, and those with a hand-written answer, or those of items where there is none."""
-    items = fit_files.some_items(fit_model.root_part(stored.file).items)
+    items = fit_files.some_items(fit_model.root_part(stored.file, 0).items)
     others = list(stored.answers["fits"]) or [(item.height, item.width) for item in items]
     return list(dict.fromkeys([(LARGEST, LARGEST)] + others))
 

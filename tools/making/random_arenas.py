@@ -107,18 +107,29 @@ def make_read(rng, name):
 # Arenas that the list call left
 
 
-class Left:
-    """A file with levels, and the words of the arena that the list call leaves."""
+def some_rib(rng):
+    """A rib: for half of the cases 0, for most others 0 to 20, and for some one that is too large."""
+    kind = rng.random()
+    if kind < 0.45:
+        return 0
+    if kind < 0.95:
+        return rng.choice([1, 20, rng.randint(0, 20), rng.randint(0, 20)])
+    return rng.choice([21, 21, 22, 40, 255, 256, 65_536, 2_147_483_648, BIG])
 
-    def __init__(self, file, levels):
+
+class Left:
+    """A file with levels and a rib, and the words of the arena that the list call leaves."""
+
+    def __init__(self, file, levels, rib):
         self.file = file
         self.levels = levels
+        self.rib = rib
         self.length = 19 * (len(levels) + 1)
-        self.walked = list_model.list_call(file, levels).walked
+        self.walked = list_model.list_call(file, levels, rib).walked
         self.words = {}
 
     def cases(self, name):
-        return [file_case(name, self.file), words_case(f"{name}, call", self.levels, self.length)]
+        return [file_case(name, self.file), words_case(f"{name}, call", self.levels, self.rib, self.length)]
 
     def take(self, answer):
         """Takes the words from the program's answer. Answers whether what is fixed of them is as it should be."""
@@ -136,7 +147,8 @@ def lefts(rng, count):
     for _ in range(count):
         file = random_faces.face(rng, large=0)
         sizes = face_model.read(file).size_count()
-        found.append(Left(file, [min(8, 1 + int(rng.expovariate(0.5))) for _ in range(sizes)]))
+        levels = [min(8, 1 + int(rng.expovariate(0.5))) for _ in range(sizes)]
+        found.append(Left(file, levels, min(list_model.RIB, some_rib(rng))))
     return found
 
 
@@ -146,4 +158,4 @@ def scrambled(rng, name, left):
     records = [item.record for item in left.walked]
     words = scramble(rng, arena, records, rng.choice([0, 1, 1, 1, 2, 3]))
     place = some_place(rng, len(records))
-    return [file_case(name, left.file), read_case(f"{name}, call", arena, place, words, left.levels)]
+    return [file_case(name, left.file), read_case(f"{name}, call", arena, place, words, left.levels, left.rib)]

@@ -4,7 +4,7 @@ import random
 
 from making import random_faces
 from making.case import OUTPUT, TEXT, TEXT_LEAST, file_case, fit_case, gauge_case, levels_case, list_case, text_case
-from making.random_arenas import make_read
+from making.random_arenas import make_read, some_rib
 from models import face_model, fit_model, list_model
 
 WORDS = list_model.WORDS
@@ -52,11 +52,12 @@ def counts(file):
     return face.gauge_count(), face.size_count()
 
 
-def opening(rng, file):
+def opening(rng, file, rib):
     kind = rng.randrange(12)
-    odd = [0, 1, 63999, 64000, 64001, 65536, BIG]
-    if face_model.number_of(file) == 0 and kind < 10:
-        item = rng.choice(fit_model.root_part(file).items)
+    most = fit_model.OPENING
+    odd = [0, 1, 63999, 64000, 64001, most - 1, most, most + 1, 65536, BIG]
+    if face_model.number_of(file) == 0 and rib <= list_model.RIB and kind < 10:
+        item = rng.choice(fit_model.root_part(file, rib).items)
         height, width = item.height, item.width
         return [
             (height, width),
@@ -65,25 +66,28 @@ def opening(rng, file):
             (height, width - 1),
             (height + 1, width + 1),
             (height + rng.randint(0, 40), width + rng.randint(0, 40)),
-            (height, 64000),
-            (64000, width),
-            (height - 1, 64000),
+            (height, most),
+            (most, width),
+            (height - 1, most),
             (64000, 64000),
         ][kind]
-    return (64000, 64000) if kind == 10 else (rng.choice(odd), rng.choice(odd))
+    return (most, most) if kind == 10 else (rng.choice(odd), rng.choice(odd))
 
 
 def some_list(rng, name, file):
     gauges, sizes = counts(file)
     output = output_lent(rng, 2 * (sizes - gauges + 1), OUTPUT)
-    return list_case(name, file, some_levels(rng, file, sizes), words_lent(rng), words_lent(rng), output)
+    levels, rib = some_levels(rng, file, sizes), some_rib(rng)
+    return list_case(name, file, levels, rib, words_lent(rng), words_lent(rng), output)
 
 
 def some_fit(rng, name, file):
     gauges, sizes = counts(file)
-    height, width = opening(rng, file)
+    rib = some_rib(rng)
+    height, width = opening(rng, file, rib)
     output = output_lent(rng, 5 * gauges, 330)
-    return fit_case(name, file, some_levels(rng, file, sizes), height, width, words_lent(rng), words_lent(rng), output)
+    levels = some_levels(rng, file, sizes)
+    return fit_case(name, file, levels, rib, height, width, words_lent(rng), words_lent(rng), output)
 
 
 def some_fill(rng, name, file):

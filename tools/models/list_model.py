@@ -1,9 +1,10 @@
 """A model of the list call and of the reading call after it, for making tests: document 01's "Outer sizes", "Lazy
-lists" and the list call's checks, and the list of a gauge of document 02's paper 1.
+lists" and the list call's checks, and of document 02 paper 1's list of a gauge and paper 2's rib.
 
-It is written from the text of document 01, "Milled instrument faces", and of paper 1, "Sizes as the makers print them", and
-shares nothing with the Rattle code: a part's list is every pair of its parts' items, with the inferior ones taken out.
-Checks 1 to 13 and the tree are those of face_model.py. Words between quotation marks are the documents'.
+It is written from the text of document 01, "Milled instrument faces", of paper 1, "Sizes as the makers print them", and of
+paper 2, "Ribs between parts", and shares nothing with the Rattle code: a part's list is every pair of its parts' items,
+with the inferior ones taken out. Checks 1 to 13 and the tree are those of face_model.py. Words between quotation marks are
+the documents'.
 """
 
 import dataclasses
@@ -14,6 +15,9 @@ from models import face_model
 
 # "Arena and scratch, each 16,384 32-bit words or more?"
 WORDS = 16384
+
+# "22 when the rib is above 20"
+RIB = 20
 
 
 @dataclasses.dataclass(frozen=True)
@@ -36,14 +40,15 @@ def m_and_p(item, join):
     return item.height, item.width
 
 
-def paired(older, newer, join):
+def paired(older, newer, join, rib):
     """What one item of the older part and one of the newer make: (m, p, record)."""
-    # "Items of parts A and B make (max of the m, sum of the p)."; "A merged item keeps the record and level of the
-    # item whose m it has; where both have it, the older part's."
+    # "Items of parts A and B make (max of the m, sum of the p)."; "the outer sizes are the merge with the rib added to
+    # each sum"; "A merged item keeps the record and level of the item whose m it has; where both have it, the older
+    # part's."
     older_m, older_p = m_and_p(older, join)
     newer_m, newer_p = m_and_p(newer, join)
     record = older.record if older_m >= newer_m else newer.record
-    return max(older_m, newer_m), older_p + newer_p, record
+    return max(older_m, newer_m), older_p + rib + newer_p, record
 
 
 def least_of_each_m(pairs):
@@ -65,9 +70,9 @@ def is_inferior(pair, pairs):
     return any(other is not pair and other[0] <= m and other[1] <= p for other in pairs)
 
 
-def joined(older, newer, join):
+def joined(older, newer, join, rib):
     """The list of a join of two parts, from the lists of the two."""
-    pairs = least_of_each_m(paired(a, b, join) for a, b in itertools.product(older, newer))
+    pairs = least_of_each_m(paired(a, b, join, rib) for a, b in itertools.product(older, newer))
     kept = [pair for pair in pairs if not is_inferior(pair, pairs)]
     if join == "stacked":
         return in_order([Item(p, m, record) for m, p, record in kept])
@@ -104,37 +109,39 @@ def gauge_lists(face):
     return lists
 
 
-def part_list(tree, gauges):
+def part_list(tree, gauges, rib):
     """The list of a part. The part's gauges are the next ones of an iterator over the gauges' lists."""
     if tree[0] == "gauge":
         return next(gauges)
     join, older_tree, newer_tree = tree
-    older = part_list(older_tree, gauges)
-    newer = part_list(newer_tree, gauges)
-    return joined(older, newer, join)
+    older = part_list(older_tree, gauges, rib)
+    newer = part_list(newer_tree, gauges, rib)
+    return joined(older, newer, join, rib)
 
 
 @functools.lru_cache(maxsize=None)
-def outer_sizes(file):
+def outer_sizes(file, rib):
     """The root's list of a taken file."""
     face = face_model.read(file)
-    return tuple(part_list(face.tree, iter(gauge_lists(face))))
+    return tuple(part_list(face.tree, iter(gauge_lists(face)), rib))
 
 
 # ---------------------------------------------------------------------------------------------------------------
 # The same sizes by choices, for faces that have few
 
 
-def extent(tree, sizes):
-    """The outer size of one choice: an iterator over the size that each gauge takes."""
+def extent(tree, sizes, rib):
+    """The outer size of one choice: an iterator over the size that each gauge takes. The two parts of a join stand a rib
+    apart."""
     if tree[0] == "gauge":
         return next(sizes)
     join, older_tree, newer_tree = tree
-    older_height, older_width = extent(older_tree, sizes)
-    newer_height, newer_width = extent(newer_tree, sizes)
+    older_height, older_width = extent(older_tree, sizes, rib)
+    newer_height, newer_width = extent(newer_tree, sizes, rib)
+    # "The second part of a join starts that many half-millimetres after the first."
     if join == "stacked":
-        return older_height + newer_height, max(older_width, newer_width)
-    return max(older_height, newer_height), older_width + newer_width
+        return older_height + rib + newer_height, max(older_width, newer_width)
+    return max(older_height, newer_height), older_width + rib + newer_width
 
 
 def choices(face):
@@ -144,10 +151,10 @@ def choices(face):
     return count
 
 
-def sizes_by_choices(face):
+def sizes_by_choices(face, rib):
     """The (height, width) of every choice of one printed size per gauge, without those that another is no taller and no
     wider than, by falling height."""
-    every = {extent(face.tree, iter(choice)) for choice in itertools.product(*(sizes for _, sizes in face.gauges))}
+    every = {extent(face.tree, iter(choice), rib) for choice in itertools.product(*(sizes for _, sizes in face.gauges))}
     kept = [a for a in every if not any(b != a and b[0] <= a[0] and b[1] <= a[1] for b in every)]
     return sorted(kept, reverse=True)
 
@@ -204,18 +211,20 @@ def output_words(face):
     return 2 * (face.size_count() - face.gauge_count() + 1)
 
 
-def list_call(file, levels, arena=WORDS, scratch=WORDS, output=None):
-    """The list call on a file and levels, lent buffers of so many words; no output given is one that is long enough.
-    It makes checks 1 to 15, 17 and 18."""
+def list_call(file, levels, rib, arena=WORDS, scratch=WORDS, output=None):
+    """The list call on a file, levels and a rib, lent buffers of so many words; no output given is one that is long enough.
+    It makes checks 1 to 15, 22, 17 and 18."""
     try:
         face = face_model.read(file)
         # "As many levels as sizes? 14. Each level 1 to 8? 15."
         face_model.ask(len(levels) == face.size_count(), 14)
         face_model.ask(all(1 <= level <= 8 for level in levels), 15)
+        # "22 when the rib is above 20, right after 15"
+        face_model.ask(rib <= RIB, 22)
         # "Arena and scratch, each 16,384 32-bit words or more? 17. Output long enough? 18."
         face_model.ask(arena >= WORDS and scratch >= WORDS, 17)
         face_model.ask(output is None or output >= output_words(face), 18)
     except face_model.Refused as refusal:
         return Listed(refusal.number)
-    items = outer_sizes(file)
+    items = outer_sizes(file, rib)
     return Listed(0, items, walk(face, items, levels))

@@ -36,7 +36,7 @@ fn call_arena(letter: u8, text: &[u8], file: &[u8], levels: &[u8], numbers: Numb
     } else if letter == b'r' {
         call_read(text, file, levels, numbers);
     } else {
-        call_words(file, levels, at_most(numbers.arena, WORDS));
+        call_words(file, levels, numbers.rib, at_most(numbers.arena, WORDS));
     }
 }
 

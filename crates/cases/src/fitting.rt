@@ -46,12 +46,13 @@ fn show_fitted(fitted: fit::Fitted, file: &[u8], arena: &[u32], scratch: &[u32],
 pub fn call_fit(
     file: &[u8],
     levels: &[u8],
+    rib: u32,
     height: u32,
     width: u32,
     arena: &mut [u32],
     scratch: &mut [u32],
     output: &mut [u32],
 ) {
-    let fitted = fit::fit(file, levels, height, width, arena, scratch, output);
+    let fitted = fit::fit(file, levels, rib, height, width, arena, scratch, output);
     show_fitted(fitted, file, arena, scratch, output);
 }

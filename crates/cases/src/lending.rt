@@ -20,11 +20,12 @@ fn call_lent(
     output: &mut [u32],
 ) {
     if letter == b'l' {
-        call_list(file, levels, arena, scratch, output);
+        call_list(file, levels, numbers.rib, arena, scratch, output);
     } else {
         call_fit(
             file,
             levels,
+            numbers.rib,
             numbers.height,
             numbers.width,
             arena,

@@ -5,7 +5,7 @@
 // so many bytes. They end with the line's end, and have one of two forms:
 //
 //     NAME: F FILE
-//     NAME: CALL LEVELS HEIGHT WIDTH ARENA SCRATCH OUTPUT
+//     NAME: CALL LEVELS HEIGHT WIDTH ARENA SCRATCH OUTPUT RIB
 //
 // NAME has no colon. It is printed with its colon, and after it what the case gives.
 //
@@ -13,9 +13,9 @@
 // gauges and of sizes.
 //
 // CALL is one letter, of a call on that file. FILE and LEVELS are bytes in hexadecimal, of lower case, and may be empty;
-// 01*3 is 010101, and 01*3,02 is 01010102. The others are decimal: the opening, and how many words of each buffer the call
-// is lent, at most 16,400, 16,400 and 904. One sign stands between two. A case may end after any of them, and those that
-// it leaves out are 0.
+// 01*3 is 010101, and 01*3,02 is 01010102. The others are decimal: the opening, how many words of each buffer the call is
+// lent, at most 16,400, 16,400 and 904, and the rib. One sign stands between two. A case may end after any of them, and
+// those that it leaves out are 0.
 //
 //     l   the list call
 //     f   the fit call
@@ -23,8 +23,8 @@
 //     g   the gauge-bytes call, of gauge HEIGHT
 //     t   the text of `faces`, in a buffer of OUTPUT bytes, at most 13,700
 //     r   the reading call, of place WIDTH, on the first ARENA words of an arena that is made so: each word is HEIGHT;
-//         then the list call is made on the file and LEVELS, which leaves the arena where it refuses them; then words are
-//         replaced. After OUTPUT come numbers with a sign before each: @I goes to word I, and a blank and a number
+//         then the list call is made on the file, LEVELS and RIB, which leaves the arena where it refuses them; then
+//         words are replaced. After RIB come numbers with a sign before each: @I goes to word I, and a blank and a number
 //         puts the number there and goes on to the next word.
 //     d   the list call, and then the first ARENA words of its arena
 //

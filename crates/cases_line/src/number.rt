@@ -15,6 +15,7 @@ pub struct Numbers {
     pub arena: u32,
     pub scratch: u32,
     pub output: u32,
+    pub rib: u32,
     pub end: usize,
 }
 
@@ -83,7 +84,7 @@ pub fn next_number(text: &[u8], at: usize) -> Number
     number_at(text, start)
 }
 
-// The five numbers of a case, from the sign before the first one on.
+// The six numbers of a case, from the sign before the first one on.
 pub fn numbers_at(text: &[u8], at: usize) -> Numbers
     requires { ⌜ at ≤ length (now text) ⌝ }
     ensures { λ r. ⌜ r .end ≤ length (now (text .entry)) ⌝ }
@@ -93,12 +94,14 @@ pub fn numbers_at(text: &[u8], at: usize) -> Numbers
     let arena = next_number(text, width.end);
     let scratch = next_number(text, arena.end);
     let output = next_number(text, scratch.end);
+    let rib = next_number(text, output.end);
     Numbers {
         height: height.value,
         width: width.value,
         arena: arena.value,
         scratch: scratch.value,
         output: output.value,
-        end: output.end,
+        rib: rib.value,
+        end: rib.end,
     }
 }

@@ -35,19 +35,20 @@ fn show_listed(listed: shapes::Listed, arena: &[u32], scratch: &[u32], output: &
 pub fn call_list(
     file: &[u8],
     levels: &[u8],
+    rib: u32,
     arena: &mut [u32],
     scratch: &mut [u32],
     output: &mut [u32],
 ) {
-    let listed = shapes::list(file, levels, arena, scratch, output);
+    let listed = shapes::list(file, levels, rib, arena, scratch, output);
     show_listed(listed, arena, scratch, output);
 }
 
 // An arena that the list call leaves.
-fn leave_list(file: &[u8], levels: &[u8], arena: &mut [u32]) {
+fn leave_list(file: &[u8], levels: &[u8], rib: u32, arena: &mut [u32]) {
     let mut scratch = words_room(UNTOUCHED);
     let mut output = output_room();
-    shapes::list(file, levels, arena, &mut scratch, &mut output);
+    shapes::list(file, levels, rib, arena, &mut scratch, &mut output);
 }
 
 // The reading call on an arena that the list call leaves and whose words are then replaced.
@@ -55,14 +56,14 @@ pub fn call_read(text: &[u8], file: &[u8], levels: &[u8], numbers: Numbers)
     requires { ⌜ numbers .end ≤ length (now text) ⌝ }
 {
     let mut arena = words_room(numbers.height);
-    leave_list(file, levels, &mut arena);
+    leave_list(file, levels, numbers.rib, &mut arena);
     replace_words(text, numbers.end, &mut arena);
     show_reading(&arena, at_most(numbers.arena, WORDS), numbers.width);
 }
 
 // The words of an arena that the list call leaves.
-pub fn call_words(file: &[u8], levels: &[u8], words: usize) {
+pub fn call_words(file: &[u8], levels: &[u8], rib: u32, words: usize) {
     let mut arena = words_room(UNTOUCHED);
-    leave_list(file, levels, &mut arena);
+    leave_list(file, levels, rib, &mut arena);
     show_words(&arena, words);
 }
