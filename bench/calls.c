@@ -1,12 +1,12 @@
 // The list call and the fit call on one file, each once by each program that is measured, and the reading call twice by
 // each: on the list that Rattle left in the arena, and on the one that C left.
 //
-//     calls FILE LEVELS
+//     calls FILE LEVELS RIB
 //
-// LEVELS is a file of one byte a size. The opening is 64,000 by 64,000. The lists are held against that of plain
-// arrays, and the layout against that of the stored lists. Four numbers are printed: the items, the area, and the bytes
-// of stack that Rattle's list call and its fit call touched. The instructions inside a function are for callgrind to
-// count.
+// LEVELS is a file of one byte a size, RIB a number from 0 to 20. The opening is 64,000 by 64,000. The lists are held
+// against that of plain arrays, and the layout against that of the stored lists. Four numbers are printed: the items,
+// the area, and the bytes of stack that Rattle's list call and its fit call touched. The instructions inside a function
+// are for callgrind to count.
 #include <stdio.h>
 #include <stdlib.h>
 #include <string.h>
@@ -67,14 +67,15 @@ static void read_last(size_t items, uint32_t p, const char *what) {
 }
 
 // Answers with the stack that Rattle's call touched.
-static size_t lists(bytes file, bytes levels, size_t *items) {
+static size_t lists(bytes file, bytes levels, uint32_t rib, size_t *items) {
     static uint32_t plain[PAIRS], lazy[PAIRS], rattle[PAIRS];
-    *items = plain_list(file, levels, arena, scratch, (words){plain, PAIRS});
+    *items = plain_list(file, levels, rib, arena, scratch, (words){plain, PAIRS});
+    hold(*items != 0, "the number of items of plain arrays");
     uint32_t last_p = file.bytes[file.length - 1] == JOIN_STACKED ? plain[0] : plain[2 * *items - 1];
-    size_t lazy_count = lazy_list(file, levels, arena, scratch, (words){lazy, PAIRS});
+    size_t lazy_count = lazy_list(file, levels, rib, arena, scratch, (words){lazy, PAIRS});
     read_last(*items, last_p, "what is read of the lazy list in C");
     paint();
-    size_t rattle_count = rattle_list(file.bytes, file.length, levels.bytes, levels.length, arena_room, WORDS,
+    size_t rattle_count = rattle_list(file.bytes, file.length, levels.bytes, levels.length, rib, arena_room, WORDS,
                                       scratch_room, WORDS, rattle, PAIRS);
     size_t stack = touched();
     read_last(*items, last_p, "what is read of Rattle's list");
@@ -84,12 +85,12 @@ static size_t lists(bytes file, bytes levels, size_t *items) {
 }
 
 // Answers with the stack that Rattle's call touched.
-static size_t fits(bytes file, bytes levels, uint32_t *area) {
+static size_t fits(bytes file, bytes levels, uint32_t rib, uint32_t *area) {
     static uint32_t stored[PLACES], rattle[PLACES];
-    fitted best = stored_fit(file, levels, OPENING, OPENING, arena, scratch, (words){stored, PLACES});
+    fitted best = stored_fit(file, levels, rib, OPENING, OPENING, arena, scratch, (words){stored, PLACES});
     hold(best.number == 0, "the number of the fit call in C");
     paint();
-    *area = rattle_fit(file.bytes, file.length, levels.bytes, levels.length, OPENING, OPENING, arena_room, WORDS,
+    *area = rattle_fit(file.bytes, file.length, levels.bytes, levels.length, rib, OPENING, OPENING, arena_room, WORDS,
                        scratch_room, WORDS, rattle, PLACES);
     size_t stack = touched();
     hold(*area == best.area && memcmp(rattle, stored, sizeof stored) == 0, "Rattle's layout");
@@ -97,13 +98,13 @@ static size_t fits(bytes file, bytes levels, uint32_t *area) {
 }
 
 int main(int argc, char **argv) {
-    if (argc != 3) return 2;
+    if (argc != 4) return 2;
     bytes file = read_file(argv[1], file_room, sizeof file_room);
     bytes levels = read_file(argv[2], levels_room, sizeof levels_room);
     size_t items;
-    uint32_t area;
-    size_t list_stack = lists(file, levels, &items), fit_stack = fits(file, levels, &area);
-    rattle_build(file.bytes, file.length, levels.bytes, levels.length, arena_room, WORDS);
+    uint32_t area, rib = (uint32_t)atoi(argv[3]);
+    size_t list_stack = lists(file, levels, rib, &items), fit_stack = fits(file, levels, rib, &area);
+    rattle_build(file.bytes, file.length, levels.bytes, levels.length, rib, arena_room, WORDS);
     printf("%zu %u %zu %zu\n", items, area, list_stack, fit_stack);
     return 0;
 }

@@ -1,5 +1,5 @@
-// The face file in C, and document 01's checks of the list and fit calls, for the programs that are measured beside the
-// Rattle code.
+// The face file in C, and the checks of the list and fit calls, for the programs that are measured beside the Rattle
+// code.
 #ifndef FACE_H
 #define FACE_H
 
@@ -36,10 +36,11 @@ static inline uint32_t size_word(const uint8_t *size) {
     return __builtin_bswap32(word);
 }
 
-// Checks 1 to 15, 17 and 18 of the list call: the number of the first that fails, or 0.
-unsigned list_number(bytes file, bytes levels, words arena, words scratch, words output);
+// Checks 1 to 15, 22, 17 and 18 of the list call: the number of the first that fails, or 0.
+unsigned list_number(bytes file, bytes levels, uint32_t rib, words arena, words scratch, words output);
 
-// Checks 1 to 18 of the fit call.
-unsigned fit_number(bytes file, bytes levels, uint32_t height, uint32_t width, words arena, words scratch, words output);
+// Checks 1 to 15, 22 and 16 to 18 of the fit call.
+unsigned fit_number(bytes file, bytes levels, uint32_t rib, uint32_t height, uint32_t width, words arena, words scratch,
+                    words output);
 
 #endif

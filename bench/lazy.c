@@ -184,17 +184,17 @@ INLINE uint32_t *move_flat(uint32_t *arena, front *a, uint32_t *last, uint32_t m
 }
 
 // Stored p are true p here.
-static void merge_flat(uint32_t *arena, front a, front b, uint32_t *last) {
+static void merge_flat(uint32_t *arena, front a, front b, uint32_t rib, uint32_t *last) {
     clear_head(last);
     while (a.m != 0 && b.m != 0) {
         if (a.m > b.m) {
-            last = move_flat(arena, &a, last, b.m, b.at[P]);
+            last = move_flat(arena, &a, last, b.m, b.at[P] + rib);
         } else if (b.m > a.m) {
-            last = move_flat(arena, &b, last, a.m, a.at[P]);
+            last = move_flat(arena, &b, last, a.m, a.at[P] + rib);
         } else {
             last[FORWARD] = a.first;
             last = a.at;
-            last[P] += b.at[P];
+            last[P] += b.at[P] + rib;
             a = front_at(arena, last[FORWARD]);
             b = front_at(arena, b.at[FORWARD]);
         }
@@ -209,10 +209,11 @@ typedef struct {
     uint32_t m, forward[LINKS + 1], sums[LINKS + 1];
 } links;
 
-INLINE void enter(uint32_t *arena, size_t head, links *x) {
+// Enters the list of a head as one in which each p is raised.
+INLINE void enter(uint32_t *arena, size_t head, uint32_t raise, links *x) {
     memcpy(x->forward, record(arena, head) + FORWARD, LINKS * sizeof *arena);
     x->forward[LINKS] = 0;
-    memset(x->sums, 0, sizeof x->sums);
+    for (size_t k = 0; k <= LINKS; k++) x->sums[k] = raise;
     x->m = record(arena, x->forward[1])[M];
 }
 
@@ -330,11 +331,14 @@ INLINE void drop_first(uint32_t *arena, front *a, links *x) {
     *a = front_at(arena, a->at[FORWARD]);
 }
 
-static void merge_linked(uint32_t *arena, size_t older, size_t newer, uint32_t *last) {
+// The older list is entered as raised by the rib: then what a run is raised by has the rib in it. The function stands
+// apart from the one that calls it, so that a merge of lists without link 1 has no room for links to make.
+static __attribute__((noinline)) void merge_linked(uint32_t *arena, size_t older, size_t newer, uint32_t rib,
+                                                   uint32_t *last) {
     links x, y;
     uint32_t *ends[LINKS];
-    enter(arena, older, &x);
-    enter(arena, newer, &y);
+    enter(arena, older, rib, &x);
+    enter(arena, newer, 0, &y);
     front a = front_at(arena, x.forward[0]), b = front_at(arena, y.forward[0]);
     clear_head(last);
     for (size_t k = 1; k < LINKS; k++) ends[k] = last + FORWARD + k;
@@ -350,13 +354,13 @@ static void merge_linked(uint32_t *arena, size_t older, size_t newer, uint32_t *
     for (size_t k = 1; k < LINKS; k++) *ends[k] = 0;
 }
 
-void lazy_merge(uint32_t *arena, size_t older, size_t newer, size_t result) {
+void lazy_merge(uint32_t *arena, size_t older, size_t newer, uint32_t rib, size_t result) {
     const uint32_t *a = record(arena, older), *b = record(arena, newer);
     uint32_t *head = record(arena, result);
     arena[M] = 0;
     if (a[FORWARD + 1] == 0 && b[FORWARD + 1] == 0) {
-        merge_flat(arena, front_at(arena, a[FORWARD]), front_at(arena, b[FORWARD]), head);
+        merge_flat(arena, front_at(arena, a[FORWARD]), front_at(arena, b[FORWARD]), rib, head);
     } else {
-        merge_linked(arena, older, newer, head);
+        merge_linked(arena, older, newer, rib, head);
     }
 }

@@ -21,8 +21,9 @@ void lazy_load(uint32_t *arena, size_t head, size_t first, const uint8_t *sizes,
 // Turns the list of a head: m and p change places and the order reverses.
 void lazy_turn(uint32_t *arena, size_t head);
 
-// Makes the list of a result head the merge of the lists of two heads. The result may be one of the two.
-void lazy_merge(uint32_t *arena, size_t older, size_t newer, size_t result);
+// Makes the list of a result head the merge of the lists of two heads, with the rib in each sum. The result may be one
+// of the two.
+void lazy_merge(uint32_t *arena, size_t older, size_t newer, uint32_t rib, size_t result);
 
 // Writes m and true p of each item of a head's list, in the order of the walk, and returns how many items there are.
 size_t lazy_items(const uint32_t *arena, size_t head, uint32_t *pairs);

@@ -29,7 +29,7 @@ static void lazy_face(bytes file, bytes levels, uint32_t *arena, size_t head, co
 }
 
 // Leaves the face's list under head 0. Answers with the kind of its last entry.
-static uint8_t lazy_build(bytes file, bytes levels, uint32_t *arena) {
+static uint8_t lazy_build(bytes file, bytes levels, uint32_t rib, uint32_t *arena) {
     pending stack[64];
     size_t at = 7, parts = 0, size = 0;
     while (at < file.length) {
@@ -45,7 +45,7 @@ static uint8_t lazy_build(bytes file, bytes levels, uint32_t *arena) {
             lazy_face(file, levels, arena, head - 1, older, runs_across(older->kind, kind));
             lazy_face(file, levels, arena, head, newer, runs_across(newer->kind, kind));
             at++;
-            lazy_merge(arena, head - 1, head, at == file.length ? 0 : head - 1);
+            lazy_merge(arena, head - 1, head, rib, at == file.length ? 0 : head - 1);
             older->kind = kind;
         }
     }
@@ -53,9 +53,9 @@ static uint8_t lazy_build(bytes file, bytes levels, uint32_t *arena) {
     return stack[0].kind;
 }
 
-size_t lazy_list(bytes file, bytes levels, words arena, words scratch, words output) {
-    if (list_number(file, levels, arena, scratch, output) != 0) return 0;
-    uint8_t kind = lazy_build(file, levels, arena.words);
+size_t lazy_list(bytes file, bytes levels, uint32_t rib, words arena, words scratch, words output) {
+    if (list_number(file, levels, rib, arena, scratch, output) != 0) return 0;
+    uint8_t kind = lazy_build(file, levels, rib, arena.words);
     return (kind == JOIN_STACKED ? lazy_items_turned : lazy_items)(arena.words, 0, output.words);
 }
 
@@ -69,14 +69,14 @@ typedef struct {
 
 static uint32_t room[512 + 63 * 449];
 
-static void plain_join(part *older, const part *newer, uint8_t join, uint32_t *to) {
+static void plain_join(part *older, const part *newer, uint8_t join, uint32_t rib, uint32_t *to) {
     older->length = plain_merge(older->items, older->length, runs_across(older->kind, join), newer->items,
-                                newer->length, runs_across(newer->kind, join), to);
+                                newer->length, runs_across(newer->kind, join), rib, to);
     older->items = to;
     older->kind = join;
 }
 
-static part plain_build(bytes file) {
+static part plain_build(bytes file, uint32_t rib) {
     part stack[64];
     size_t at = 7, parts = 0;
     uint32_t *free = room;
@@ -91,7 +91,7 @@ static part plain_build(bytes file) {
             at += 4 * printed;
         } else {
             parts--;
-            plain_join(&stack[parts - 1], &stack[parts], kind, free);
+            plain_join(&stack[parts - 1], &stack[parts], kind, rib, free);
         }
         free += stack[parts - 1].length;
     }
@@ -108,9 +108,9 @@ static void plain_write(const part *root, uint32_t *pairs) {
     }
 }
 
-size_t plain_list(bytes file, bytes levels, words arena, words scratch, words output) {
-    if (list_number(file, levels, arena, scratch, output) != 0) return 0;
-    part root = plain_build(file);
+size_t plain_list(bytes file, bytes levels, uint32_t rib, words arena, words scratch, words output) {
+    if (list_number(file, levels, rib, arena, scratch, output) != 0) return 0;
+    part root = plain_build(file, rib);
     plain_write(&root, output.words);
     return root.length;
 }

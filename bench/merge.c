@@ -1,12 +1,12 @@
 // One item is merged into a list of k records, at every place where its m can fall.
 //
-//     merge older|newer gap|tie K
+//     merge older|newer gap|tie K RIB
 //
 // The list's records are 1 to K with levels one in four: level 1 plus the times that 4 divides the record number, cut
 // to 8. The item is the list of the older or of the newer part, and its m falls in a gap (above the first record,
-// between two, or below the last) or on the m of a record. Each merge is made by each program that is measured, from
-// the same freshly made arena, and held against the plain one. The number of merges is printed; the instructions inside
-// a function are for callgrind to count.
+// between two, or below the last) or on the m of a record. RIB is in each sum. Each merge is made by each program that
+// is measured, from the same freshly made arena, and held against the plain one. The number of merges is printed; the
+// instructions inside a function are for callgrind to count.
 #include <stdio.h>
 #include <stdlib.h>
 #include <string.h>
@@ -65,25 +65,26 @@ static void check(size_t expected) {
     exit(1);
 }
 
-static void merge_all(bool is_older, size_t k, uint32_t one) {
+static void merge_all(bool is_older, size_t k, uint32_t one, uint32_t rib) {
     size_t older = is_older ? ITEM : LIST, newer = is_older ? LIST : ITEM;
-    size_t expected = is_older ? plain_merge(&one, 1, false, records, k, false, merged)
-                               : plain_merge(records, k, false, &one, 1, false, merged);
+    size_t expected = is_older ? plain_merge(&one, 1, false, records, k, false, rib, merged)
+                               : plain_merge(records, k, false, &one, 1, false, rib, merged);
     make_arena(k, one);
-    lazy_merge(arena, older, newer, RESULT);
+    lazy_merge(arena, older, newer, rib, RESULT);
     check(expected);
     make_arena(k, one);
-    rattle_merge(arena, WORDS, older, newer);
+    rattle_merge(arena, WORDS, older, newer, rib);
     check(expected);
 }
 
 int main(int argc, char **argv) {
-    if (argc != 4) return 2;
+    if (argc != 5) return 2;
     bool is_older = strcmp(argv[1], "older") == 0, is_tie = strcmp(argv[2], "tie") == 0;
     size_t k = (size_t)atoi(argv[3]), merges = 0;
+    uint32_t rib = (uint32_t)atoi(argv[4]);
     make_list(k);
     for (size_t m = is_tie ? 2 : 1; m <= 2 * k + 1; m += 2) {
-        merge_all(is_older, k, (uint32_t)(m << 16 | 7));
+        merge_all(is_older, k, (uint32_t)(m << 16 | 7), rib);
         merges++;
     }
     printf("%zu\n", merges);

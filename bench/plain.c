@@ -29,9 +29,10 @@ INLINE bool next(rest *x, bool across) {
     return true;
 }
 
-// Writes the items of a list whose m is larger than that of an item of the other list. Answers whether one is left.
-INLINE bool run(rest *x, bool across, uint32_t other, uint32_t **to) {
-    uint32_t m = other | 0xFFFF, p = other & 0xFFFF;
+// Writes the items of a list whose m is larger than that of an item of the other list. The rib is added once for all of
+// them. Answers whether an item is left.
+INLINE bool run(rest *x, bool across, uint32_t other, uint32_t rib, uint32_t **to) {
+    uint32_t m = other | 0xFFFF, p = (other & 0xFFFF) + rib;
     while (x->item > m) {
         *(*to)++ = x->item + p;
         if (!next(x, across)) return false;
@@ -40,19 +41,19 @@ INLINE bool run(rest *x, bool across, uint32_t other, uint32_t **to) {
 }
 
 // The merge, made once for each way in which the two lists are read.
-INLINE size_t merge(rest x, bool across_x, rest y, bool across_y, uint32_t *to) {
+INLINE size_t merge(rest x, bool across_x, rest y, bool across_y, uint32_t rib, uint32_t *to) {
     const uint32_t *start = to;
-    while (run(&x, across_x, y.item, &to) && run(&y, across_y, x.item, &to)) {
+    while (run(&x, across_x, y.item, rib, &to) && run(&y, across_y, x.item, rib, &to)) {
         if ((x.item ^ y.item) > 0xFFFF) continue;
-        *to++ = x.item + (y.item & 0xFFFF);
+        *to++ = x.item + (y.item & 0xFFFF) + rib;
         if (!next(&x, across_x) || !next(&y, across_y)) break;
     }
     return (size_t)(to - start);
 }
 
 size_t plain_merge(const uint32_t *a, size_t length_a, bool across_a, const uint32_t *b, size_t length_b, bool across_b,
-                   uint32_t *to) {
+                   uint32_t rib, uint32_t *to) {
     rest x = enter(a, length_a, across_a), y = enter(b, length_b, across_b);
-    if (across_a) return across_b ? merge(x, true, y, true, to) : merge(x, true, y, false, to);
-    return across_b ? merge(x, false, y, true, to) : merge(x, false, y, false, to);
+    if (across_a) return across_b ? merge(x, true, y, true, rib, to) : merge(x, true, y, false, rib, to);
+    return across_b ? merge(x, false, y, true, rib, to) : merge(x, false, y, false, rib, to);
 }

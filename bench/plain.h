@@ -15,8 +15,9 @@ static inline uint32_t swapped(uint32_t item) { return item << 16 | item >> 16; 
 // many as they stand.
 void plain_load(const uint8_t *sizes, const uint8_t *places, size_t count, uint32_t *to);
 
-// Writes the merge of two lists of one item or more, each read as it runs or across, and returns its length.
+// Writes the merge of two lists of one item or more, each read as it runs or across, with the rib in each sum, and
+// returns its length.
 size_t plain_merge(const uint32_t *a, size_t length_a, bool across_a, const uint32_t *b, size_t length_b, bool across_b,
-                   uint32_t *to);
+                   uint32_t rib, uint32_t *to);
 
 #endif

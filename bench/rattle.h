@@ -6,21 +6,21 @@
 #include <stdint.h>
 
 // The result's head is record 0.
-void rattle_merge(uint32_t *arena, size_t arena_words, size_t older, size_t newer);
+void rattle_merge(uint32_t *arena, size_t arena_words, size_t older, size_t newer, uint32_t rib);
 
 // Answers with the number of items.
-uint32_t rattle_list(const uint8_t *file, size_t file_bytes, const uint8_t *levels, size_t level_bytes, uint32_t *arena,
-                     size_t arena_words, uint32_t *scratch, size_t scratch_words, uint32_t *output,
+uint32_t rattle_list(const uint8_t *file, size_t file_bytes, const uint8_t *levels, size_t level_bytes, uint32_t rib,
+                     uint32_t *arena, size_t arena_words, uint32_t *scratch, size_t scratch_words, uint32_t *output,
                      size_t output_words);
 
 // Answers with the area.
-uint32_t rattle_fit(const uint8_t *file, size_t file_bytes, const uint8_t *levels, size_t level_bytes, uint32_t height,
-                    uint32_t width, uint32_t *arena, size_t arena_words, uint32_t *scratch, size_t scratch_words,
-                    uint32_t *output, size_t output_words);
+uint32_t rattle_fit(const uint8_t *file, size_t file_bytes, const uint8_t *levels, size_t level_bytes, uint32_t rib,
+                    uint32_t height, uint32_t width, uint32_t *arena, size_t arena_words, uint32_t *scratch,
+                    size_t scratch_words, uint32_t *output, size_t output_words);
 
 // Answers with the kind of the face's last entry.
-uint8_t rattle_build(const uint8_t *file, size_t file_bytes, const uint8_t *levels, size_t level_bytes, uint32_t *arena,
-                     size_t arena_words);
+uint8_t rattle_build(const uint8_t *file, size_t file_bytes, const uint8_t *levels, size_t level_bytes, uint32_t rib,
+                     uint32_t *arena, size_t arena_words);
 
 // Answers with p of the item at a place, 0 where a check fails.
 uint32_t rattle_read(const uint32_t *arena, size_t arena_words, uint32_t place);

@@ -19,7 +19,7 @@ static inline part *table_of(uint32_t *scratch) { return (part *)scratch; }
 // ---- the lists
 
 // Stores the lists of all parts. Answers the number of the whole face.
-static size_t store_lists(bytes file, uint32_t *scratch) {
+static size_t store_lists(bytes file, uint32_t rib, uint32_t *scratch) {
     part *table = table_of(scratch);
     size_t at = 7, p = 0;
     uint32_t to = 4 * PARTS;
@@ -37,7 +37,7 @@ static size_t store_lists(bytes file, uint32_t *scratch) {
         } else {
             const part *newer = &table[p - 1], *older = &table[p - 2 * newer->gauges];
             uint32_t count = plain_merge(scratch + older->from, older->count, runs_across(older->kind, kind),
-                                         scratch + newer->from, newer->count, runs_across(newer->kind, kind),
+                                         scratch + newer->from, newer->count, runs_across(newer->kind, kind), rib,
                                          scratch + to);
             table[p] = (part){to, count, kind, older->gauges + newer->gauges};
         }
@@ -93,12 +93,13 @@ static uint32_t size_number(const uint32_t *list, size_t count, uint32_t height)
     return ((const uint8_t *)(list + count))[k] + 1u;
 }
 
-// Lays a part out that takes an item, given as height and width packed, with its lower left corner at x, y.
-static void lay(const uint32_t *scratch, const part *p, uint32_t z, uint32_t x, uint32_t y, uint32_t *out) {
+// Lays a part out that takes an item, given as height and width packed, with its lower left corner, given as up and
+// across packed. No place is past 65,260, so nothing is carried from across to up.
+static void lay(const uint32_t *scratch, const part *p, uint32_t z, uint32_t corner, uint32_t rib, uint32_t *out) {
     if (p->kind == GAUGE) {
         out[0] = size_number(scratch + p->from, p->count, z >> 16);
-        out[1] = x;
-        out[2] = y;
+        out[1] = corner & 0xFFFF;
+        out[2] = corner >> 16;
         out[3] = z & 0xFFFF;
         out[4] = z >> 16;
         return;
@@ -107,22 +108,23 @@ static void lay(const uint32_t *scratch, const part *p, uint32_t z, uint32_t x, 
     if (p->kind == JOIN_STACKED) {
         uint32_t limit = z & 0xFFFF;
         uint32_t a = take(scratch, older, JOIN_STACKED, limit), b = take(scratch, newer, JOIN_STACKED, limit);
-        lay(scratch, older, swapped(a), x, y, out);
-        lay(scratch, newer, swapped(b), x, y + (a & 0xFFFF), out + 5 * older->gauges);
+        lay(scratch, older, swapped(a), corner, rib, out);
+        lay(scratch, newer, swapped(b), corner + ((a + rib) << 16), rib, out + 5 * older->gauges);
     } else {
         uint32_t limit = z >> 16;
         uint32_t a = take(scratch, older, BESIDE, limit), b = take(scratch, newer, BESIDE, limit);
-        lay(scratch, older, a, x, y, out);
-        lay(scratch, newer, b, x + (a & 0xFFFF), y, out + 5 * older->gauges);
+        lay(scratch, older, a, corner, rib, out);
+        lay(scratch, newer, b, corner + (a & 0xFFFF) + rib, rib, out + 5 * older->gauges);
     }
 }
 
-fitted stored_fit(bytes file, bytes levels, uint32_t height, uint32_t width, words arena, words scratch, words output) {
-    unsigned number = fit_number(file, levels, height, width, arena, scratch, output);
+fitted stored_fit(bytes file, bytes levels, uint32_t rib, uint32_t height, uint32_t width, words arena, words scratch,
+                  words output) {
+    unsigned number = fit_number(file, levels, rib, height, width, arena, scratch, output);
     if (number != 0) return (fitted){number, 0, 0, 0, 0};
-    const part *root = table_of(scratch.words) + store_lists(file, scratch.words);
+    const part *root = table_of(scratch.words) + store_lists(file, rib, scratch.words);
     uint32_t z = pick(scratch.words + root->from, root->count, root->kind == JOIN_STACKED, height, width);
     if (z == 0) return (fitted){19, 0, 0, 0, 0};
-    lay(scratch.words, root, z, 0, 0, output.words);
+    lay(scratch.words, root, z, 0, rib, output.words);
     return (fitted){0, z >> 16, z & 0xFFFF, (z >> 16) * (z & 0xFFFF), root->count};
 }

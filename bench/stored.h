@@ -10,6 +10,7 @@ typedef struct {
 } fitted;
 
 // Makes the checks, fills the output, and answers as the fit call does.
-fitted stored_fit(bytes file, bytes levels, uint32_t height, uint32_t width, words arena, words scratch, words output);
+fitted stored_fit(bytes file, bytes levels, uint32_t rib, uint32_t height, uint32_t width, words arena, words scratch,
+                  words output);
 
 #endif

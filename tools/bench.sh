@@ -24,6 +24,7 @@ tables='own uncut ones eights scattered'
 lengths='1 16 64 128 256 448'
 ways='newer-gap newer-tie older-gap older-tie'
 read_face=row-of-64
+rib=20
 page=docs/BENCHMARKS.md
 kit=$(dirname "$(dirname "$(readlink -f "$(command -v rt)")")")
 clang=$kit/on/x86_64/toolchain/bin/clang
@@ -100,13 +101,17 @@ profile() { # NAME PROGRAM WORD...
 profile_merges() {
     for k in $lengths; do
         for side in newer older; do
-            for place in gap tie; do profile "$k-$side-$place" merge $side $place "$k"; done
+            for place in gap tie; do profile "$k-$side-$place" merge $side $place "$k" 0; done
         done
     done
 }
 
 profile_calls() { # TABLE FACE...
-    for face in "${@:2}"; do profile "$face-$1" calls "$work/$face.fce" "$work/$face.$1"; done
+    for face in "${@:2}"; do profile "$face-$1" calls "$work/$face.fce" "$work/$face.$1" 0; done
+}
+
+profile_ribs() { # FACE...
+    for face in "$@"; do profile "$face-rib" calls "$work/$face.fce" "$work/$face.own" $rib; done
 }
 
 profile_process() {
@@ -118,6 +123,7 @@ profile_all() {
     for table in $tables; do profile_calls $table $faces; done
     for table in own scattered; do profile_calls $table $(growing); done
     profile_calls own $printed
+    profile_ribs $faces
     profile_process
 }
 
@@ -226,14 +232,18 @@ growth_table() { # TABLE
     done
 }
 
+# Prints the cells of the fit call's own part, in Rattle what it does beside the build.
+own_cells() { # NAME FIT BUILD
+    beside_c $(($2 - $3)) "$(inside stored_fit "$1-gcc")" "$(inside stored_fit "$1-clang")"
+}
+
 fit_table() {
     header face items area 'fit, Rattle' 'build, Rattle' 'own part, Rattle' "${c_names[@]}"
     for face in $faces; do
         read -r items area _ <"$work/$face-own.printed"
         fit=$(rattle rattle_fit $face-own)
         build=$(rattle rattle_build $face-own)
-        row $face "$items" "$area" "$fit" "$build" "$(beside_c $((fit - build)) \
-            "$(inside stored_fit $face-own-gcc)" "$(inside stored_fit $face-own-clang)")"
+        row $face "$items" "$area" "$fit" "$build" "$(own_cells $face-own "$fit" "$build")"
     done
 }
 
@@ -244,8 +254,20 @@ printed_table() {
         read -r items _ <"$work/$face-own.printed"
         fit=$(rattle rattle_fit $face-own)
         build=$(rattle rattle_build $face-own)
-        row $face "$items" "$(list_cells $face-own)" "$fit" "$(beside_c $((fit - build)) \
-            "$(inside stored_fit $face-own-gcc)" "$(inside stored_fit $face-own-clang)")"
+        row $face "$items" "$(list_cells $face-own)" "$fit" "$(own_cells $face-own "$fit" "$build")"
+    done
+}
+
+# C and the ratios are at the rib too.
+ribs_table() {
+    header face items 'list, rib 0, Rattle' "list, rib $rib, Rattle" "${c_names[@]}" \
+        'fit, rib 0, Rattle' "fit, rib $rib, Rattle" "own part, rib $rib, Rattle" "${c_names[@]}"
+    for face in $faces; do
+        read -r items _ <"$work/$face-rib.printed"
+        fit=$(rattle rattle_fit $face-rib)
+        build=$(rattle rattle_build $face-rib)
+        row $face "$items" "$(rattle rattle_list $face-own)" "$(list_cells $face-rib)" \
+            "$(rattle rattle_fit $face-own)" "$fit" "$(own_cells $face-rib "$fit" "$build")"
     done
 }
 
@@ -292,6 +314,7 @@ print_all() {
     with 'Under scattered levels:' growth_table scattered
     with '## The fit call' fit_table
     with '## Sizes as they are printed' printed_table
+    with '## With ribs' ribs_table
     with '## The reading call' reading_table
     with '## The program faces' process_table
     with '## Stack' stack_table
