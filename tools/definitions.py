@@ -10,6 +10,7 @@ It reads the sources as text. A contract reaches the names in its clauses; a nam
 Lines are all lines of a file, its comments and imports too.
 """
 
+import itertools
 import pathlib
 import re
 import sys
@@ -40,6 +41,15 @@ THEOREMS = [
     ("slicing/proofs/Numbers.antt", "gauge-numbers"),
     ("slicing/proofs/Numbers.antt", "recorded-only"),
     ("facefile/proofs/Version1.antt", "version-1"),
+    ("slicing/proofs/StripLaws.antt", "legal-strips"),
+    ("slicing/proofs/StripLaws.antt", "legal-sizes"),
+    ("slicing/proofs/StripLaws.antt", "strips-legal"),
+    ("slicing/proofs/Clearance.antt", "gauges-clear"),
+    ("slicing/proofs/Clearance.antt", "no-overlap"),
+    ("slicing/proofs/Starts.antt", "starts-across"),
+    ("slicing/proofs/Starts.antt", "starts-upward"),
+    ("slicing/proofs/Reach.antt", "shapes-reach"),
+    ("slicing/proofs/Reach.antt", "shapes-most"),
 ]
 
 IMPORT = re.compile(r"^(?:ghost |pub )*use Rattle·(\w+)(?:·\w+)?\.(specs|proofs)\.((?:inside\.)?\w+)\.\{([^}]*)\}", re.M)
@@ -89,8 +99,10 @@ def clauses(path, call):
 
 
 def statement(path, theorem):
-    """A theorem's type."""
-    return file_at(path).definitions[theorem][0].partition(" : ")[2]
+    """A theorem's type: the first line of it, and those after it that go on with an arrow."""
+    first, *later = file_at(path).definitions[theorem]
+    arrows = itertools.takewhile(lambda line: line.startswith("    →"), later)
+    return "\n".join([first.partition(" : ")[2], *arrows])
 
 
 def reached(starts):
