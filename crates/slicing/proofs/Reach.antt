@@ -9,43 +9,40 @@ use Rattle.slicing.specs.Item.{Item}
 use Rattle.slicing.specs.Tree.{Tree, gauge, beside, stacked, gaugeCount}
 use Rattle.slicing.specs.Good.{Good}
 use Rattle.slicing.specs.Shapes.{shapes}
-use Rattle.slicing.specs.Choice.{Choice, extent}
+use Rattle.slicing.specs.Choice.{Choice, sideBySide, oneOnOther, extent}
 use Rattle.slicing.proofs.Counts.{counted, gauges-joined}
 use Rattle.slicing.proofs.ShapeLaws.{shapes-chosen}
 
--- z is from 1 to n both ways, where n is less by the gap than so much a gauge: so two parts add up.
+-- z is at least 1 both ways, and with a gap added at most 1,000 and a gap for each gauge: so two parts add up.
 record Within (gap g : ℕ) (z : Item) : Type 0 where
   high : 1 ≤ z .m
   wide : 1 ≤ z .p
   low : z .m + gap ≤ 1_000 * g + gap * g
   narrow : z .p + gap ≤ 1_000 * g + gap * g
 
+-- Of two parts, side by side and one on the other.
+joined-within : (gap g k : ℕ) (x y : Item) → Within gap g x → Within gap k y → Within gap (g + k) (sideBySide gap x y) × Within gap (g + k) (oneOnOther gap x y)
+joined-within gap g k x y first second =
+    let high = first .high in
+    let wide = first .wide in
+    let x-low = first .low in
+    let y-low = second .low in
+    let x-narrow = first .narrow in
+    let y-narrow = second .narrow in (
+      record { high = omega arith; wide = omega arith; low = omega arith; narrow = omega arith },
+      record { high = omega arith; wide = omega arith; low = omega arith; narrow = omega arith },
+    )
+
 extent-within : (gap : ℕ) (t : Tree) → Good t → (c : Choice t) → Within gap (gaugeCount t) (extent gap t c)
 extent-within gap (gauge s) h c =
     let z = h .limited (c .0) (c .1) in
     record { high = z .high; wide = z .wide; low = omega arith; narrow = omega arith }
 extent-within gap (beside a b) h c =
-    let x = extent-within gap a (h .0) (c .0) in
-    let y = extent-within gap b (h .1) (c .1) in
-    let high = x .high in
-    let wide = x .wide in
-    let x-low = x .low in
-    let y-low = y .low in
-    let x-narrow = x .narrow in
-    let y-narrow = y .narrow in
     rw (gauges-joined a b)
-    (record { high = omega arith; wide = omega arith; low = omega arith; narrow = omega arith })
+    (joined-within gap _ _ _ _ (extent-within gap a (h .0) (c .0)) (extent-within gap b (h .1) (c .1)) .0)
 extent-within gap (stacked a b) h c =
-    let x = extent-within gap a (h .0) (c .0) in
-    let y = extent-within gap b (h .1) (c .1) in
-    let high = x .high in
-    let wide = x .wide in
-    let x-low = x .low in
-    let y-low = y .low in
-    let x-narrow = x .narrow in
-    let y-narrow = y .narrow in
     rw (gauges-joined a b)
-    (record { high = omega arith; wide = omega arith; low = omega arith; narrow = omega arith })
+    (joined-within gap _ _ _ _ (extent-within gap a (h .0) (c .0)) (extent-within gap b (h .1) (c .1)) .1)
 
 shapes-within : (gap : ℕ) (t : Tree) → Good t → (z : Item) → List·Memᴰ z (shapes gap t) → Within gap (gaugeCount t) z
 shapes-within gap t h z i =
