@@ -36,7 +36,7 @@ strips-clear gap (stacked a b) l strips =
 pub gauges-clear : (gap : ℕ) (t : Tree) (l : Layout t) → Legal gap t l → AllClear gap (rectangles t l)
 gauges-clear gap t l legal = strips-clear gap t l (legal-strips gap t l legal)
 
-pub rectangles-length : (t : Tree) (l : Layout t) → length (rectangles t l) ≡ gaugeCount t
+rectangles-length : (t : Tree) (l : Layout t) → length (rectangles t l) ≡ gaugeCount t
 rectangles-length (gauge s) l = refl
 rectangles-length (beside a b) l =
     omega (arith, length-append (rectangles a (l .0)) (rectangles b (l .1)), rectangles-length a (l .0), rectangles-length b (l .1), gauges-joined a b)

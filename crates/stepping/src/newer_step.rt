@@ -12,8 +12,7 @@ use moving::walk_run::walk_run;
 use searching::search::may_pass;
 
 // Moves the records of the newer list whose m is larger than that of the older list's first: each p is raised by that
-// first one's p and the rib. A run in which no record has
-// link 1 is one walk.
+// first one's p and the rib. A run in which no record has link 1 is one walk.
 pub fn newer_step(
     arena: &mut [u32],
     older: usize,

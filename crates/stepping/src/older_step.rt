@@ -13,9 +13,8 @@ use moving::walk_run::walk_run;
 use searching::search::may_pass;
 
 // Moves the records of the older list whose m is at least that of the newer list's first: each p is raised by that first
-// one's p and the rib. Where the last of them has
-// the same m, the newer list's first record leaves: of two records of one m the older part's stays. A run in which no record
-// has link 1 is one walk.
+// one's p and the rib. Where the last of them has the same m, the newer list's first record leaves: of two records of one m
+// the older part's stays. A run in which no record has link 1 is one walk.
 pub fn older_step(
     arena: &mut [u32],
     older: usize,
