@@ -73,21 +73,21 @@ module _ (rules : Rules) (file : List ℕ) (c : Cursor) (count : ℕ) where
       let outside : within 1 8 count ≡ false = sym e ∙ not-true b h in
       follows-stop file (gaugeSizes rules count s) SizeCount 7 (simp outside) refl
 
-  pub sizes-short : (b : Bool) → b ≡ within 1 8 count → not b ≡ false → length file - c .at < 4 * count → Does (gaugeSizes rules count) file c (Stop 5)
+  pub sizes-short : (b : Bool) → b ≡ within 1 8 count → not b ≡ false → length file - c .at < rules .step * count → Does (gaugeSizes rules count) file c (Stop 5)
   unfolding Does gaugeSizes
   sizes-short b e good h s t =
       let inside : within 1 8 count ≡ true = sym e ∙ not-false b good in
-      let few : length (s .rest) < 4 * count = omega (arith, left file c s t) in
-      follows-stop file (gaugeSizes rules count s) Present 5 (simp (inside, lt-leb (4 * count) (length (s .rest)) few)) refl
+      let few : length (s .rest) < rules .step * count = omega (arith, left file c s t) in
+      follows-stop file (gaugeSizes rules count s) Present 5 (simp (inside, lt-leb (rules .step * count) (length (s .rest)) few)) refl
 
   -- The number of checks 8 and 9 on the sizes, as the code has it.
-  module _ (b : Bool) (range : b ≡ within 1 8 count) (good : not b ≡ false) (present : 4 * count ≤ length file - c .at) (n : ℕ) (checked : n ≡ number (sizesFrom rules count (drop (c .at) file))) where
-    sized : (s : State) → Tracks file c s → gaugeSizes rules count s ≡ next (sizesFrom rules count (s .rest)) (gaugeTaken (skip (4 * count) s))
+  module _ (b : Bool) (range : b ≡ within 1 8 count) (good : not b ≡ false) (present : rules .step * count ≤ length file - c .at) (n : ℕ) (checked : n ≡ number (sizesFrom rules count (drop (c .at) file))) where
+    sized : (s : State) → Tracks file c s → gaugeSizes rules count s ≡ next (sizesFrom rules count (s .rest)) (gaugeTaken (skip (rules .step * count) s))
     unfolding gaugeSizes
     sized s t =
         let inside : within 1 8 count ≡ true = sym range ∙ not-false b good in
-        let enough : 4 * count ≤ length (s .rest) = omega (arith, left file c s t) in
-        simp (inside, le-leb (4 * count) (length (s .rest)) enough)
+        let enough : rules .step * count ≤ length (s .rest) = omega (arith, left file c s t) in
+        simp (inside, le-leb (rules .step * count) (length (s .rest)) enough)
 
     at-rest : (s : State) → Tracks file c s → n ≡ number (sizesFrom rules count (s .rest))
     at-rest s t = checked ∙ ap (λ (l : List ℕ). number (sizesFrom rules count l)) (sym (t .rest))
@@ -97,9 +97,9 @@ module _ (rules : Rules) (file : List ℕ) (c : Cursor) (count : ℕ) where
     sizes-bad h s t =
         let bad = number-refused (sizesFrom rules count (s .rest)) n (at-rest s t) h in
         follows-stop file (gaugeSizes rules count s) (bad .0) n
-        (sized s t ∙ ap (λ (a : Answer (List Item)). next a (gaugeTaken (skip (4 * count) s))) (bad .1)) (bad .2)
+        (sized s t ∙ ap (λ (a : Answer (List Item)). next a (gaugeTaken (skip (rules .step * count) s))) (bad .1)) (bad .2)
 
-    pub sizes-taken : Fair file c → c .gauges < 64 → n ≡ 0 → Does (gaugeSizes rules count) file c (Next (record { at = c .at + 4 * count; parts = c .parts + 1; gauges = c .gauges + 1; sizes = c .sizes + count }))
+    pub sizes-taken : Fair file c → c .gauges < 64 → n ≡ 0 → Does (gaugeSizes rules count) file c (Next (record { at = c .at + rules .step * count; parts = c .parts + 1; gauges = c .gauges + 1; sizes = c .sizes + count }))
     unfolding Does
     sizes-taken f few h s t =
         let passed = number-taken (sizesFrom rules count (s .rest)) (sym (at-rest s t) ∙ h) in
@@ -109,12 +109,12 @@ module _ (rules : Rules) (file : List ℕ) (c : Cursor) (count : ℕ) where
         let counts = in-range count b range good in
         let counted = taken-sizes rules count (s .rest) zs (counts .0) (counts .1) (passed .1) .as-many in
         follows-next file (gaugeSizes rules count s)
-        (record { rest = drop (4 * count) (s .rest); stack = gauge zs ∷ s .stack; gauges = s .gauges + 1 })
-        (record { at = c .at + 4 * count; parts = c .parts + 1; gauges = c .gauges + 1; sizes = c .sizes + count })
-        (sized s t ∙ ap (λ (a : Answer (List Item)). next a (gaugeTaken (skip (4 * count) s))) (passed .1))
+        (record { rest = drop (rules .step * count) (s .rest); stack = gauge zs ∷ s .stack; gauges = s .gauges + 1 })
+        (record { at = c .at + rules .step * count; parts = c .parts + 1; gauges = c .gauges + 1; sizes = c .sizes + count })
+        (sized s t ∙ ap (λ (a : Answer (List Item)). next a (gaugeTaken (skip (rules .step * count) s))) (passed .1))
         (record { inside = omega (arith, f .inside); parts-few = omega (arith, f .parts-few); gauges-few = omega arith; sizes-few = omega (arith, f .sizes-few) })
         (record {
-          rest = tracks-skip file c s (4 * count) t .rest;
+          rest = tracks-skip file c s (rules .step * count) t .rest;
           parts = omega (arith, t .parts);
           gauges = omega (arith, t .gauges);
           gauge-total = omega (arith, gauges, t .gauge-total);

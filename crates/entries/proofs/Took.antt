@@ -23,7 +23,8 @@ state rest parts g = record { rest = rest; stack = parts; gauges = g }
 
 -- One entry took the first state to the second, by the rules of some version.
 pub data Took (rules : Rules) : State → State → Type 0 where
-  took-gauge : (count : ℕ) (bytes : List ℕ) (parts : List Tree) (g : ℕ) (z : List Item) → g < 64 → 1 ≤ count → count ≤ 8 → 4 * count ≤ length bytes → sizesFrom rules count bytes ≡ taken z → Took rules (state (0x01 ∷ count ∷ bytes) parts g) (state (drop (4 * count) bytes) (gauge z ∷ parts) (g + 1))
+  took-gauge : (count : ℕ) (bytes : List ℕ) (parts : List Tree) (g : ℕ) (z : List Item) → g < 64 → 1 ≤ count → count ≤ 8 → rules .step * count ≤ length bytes → sizesFrom rules count bytes ≡ taken z
+      → Took rules (state (0x01 ∷ count ∷ bytes) parts g) (state (drop (rules .step * count) bytes) (gauge z ∷ parts) (g + 1))
   took-join : (kind : ℕ) (cut : Tree → Tree → Tree) (bytes : List ℕ) (a b : Tree) (parts : List Tree) (g : ℕ) → Cut kind cut → Took rules (state (kind ∷ bytes) (b ∷ a ∷ parts) g) (state bytes (cut a b ∷ parts) g)
 
 -- So many entries took the first state to the second.
@@ -35,12 +36,12 @@ sizes-took : (rules : Rules) (count : ℕ) (bytes : List ℕ) (parts : List Tree
 unfolding gaugeSizes
 sizes-took rules count bytes parts g s few e =
     let counted = ask-taken (within 1 8 count) _ _ s e in
-    let present = ask-taken (leb (4 * count) (length bytes)) _ _ s (counted .1) in
+    let present = ask-taken (leb (rules .step * count) (length bytes)) _ _ s (counted .1) in
     let limits = within-true 1 8 count (counted .0) in
-    let sized = next-taken (sizesFrom rules count bytes) (gaugeTaken (skip (4 * count) (state bytes parts g))) s (present .1) in
+    let sized = next-taken (sizesFrom rules count bytes) (gaugeTaken (skip (rules .step * count) (state bytes parts g))) s (present .1) in
     subst (λ (t : State). Took rules (state (0x01 ∷ count ∷ bytes) parts g) t) (same-taken _ s (sized .2))
     (took-gauge count bytes parts g (sized .0) few (limits .0) (limits .1)
-    (leb-true (4 * count) (length bytes) (present .0)) (sized .1))
+    (leb-true (rules .step * count) (length bytes) (present .0)) (sized .1))
 
 gauge-took : (rules : Rules) (rest : List ℕ) (parts : List Tree) (g : ℕ) (s : State) → gaugeEntry rules (state rest parts g) ≡ taken s → Took rules (state (0x01 ∷ rest) parts g) s
 unfolding gaugeEntry

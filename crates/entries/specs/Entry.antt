@@ -1,4 +1,4 @@
--- Document 01, "The face file" and "The checks, as questions", entry by entry: what an entry does to the stack of parts, or the first of checks 5 to 11 that it fails. The rules are those of the file's version.
+-- Document 01, "The face file" and "The checks, as questions", entry by entry: what an entry does to the stack of parts, or the first of checks 5 to 11 that it fails. The rules are those of the file's version, or of words.
 use mathlib.Core.Bool.{cond}
 use mathlib.Core.List.{List, [], _∷_}
 use Prim.Native.Nat.{ℕ, zero, suc, _+_, _*_}
@@ -11,7 +11,7 @@ use Rattle.slicing.specs.Tree.{Tree, gauge, beside, stacked}
 use Rattle.sizes.specs.Rules.{Rules}
 use Rattle.sizes.specs.GaugeSizes.{within, sizesFrom}
 
--- Where the reading of the entries stands: the bytes that are left, the stack of parts, the newest first, and the number of gauges so far.
+-- Where the reading of the entries stands: the bytes or words that are left, the stack of parts, the newest first, and the number of gauges so far.
 pub record State : Type 0 where
   pub rest : List ℕ
   pub stack : List Tree
@@ -28,8 +28,8 @@ gaugeTaken s z = taken (record { rest = s .rest; stack = gauge z ∷ s .stack; g
 unfoldable pub gaugeSizes : Rules → ℕ → State → Answer State
 gaugeSizes rules count s =
     ask (within 1 8 count) SizeCount
-    (ask (leb (4 * count) (length (s .rest))) Present
-    (next (sizesFrom rules count (s .rest)) (gaugeTaken (skip (4 * count) s))))
+    (ask (leb (rules .step * count) (length (s .rest))) Present
+    (next (sizesFrom rules count (s .rest)) (gaugeTaken (skip (rules .step * count) s))))
 
 -- For a gauge: at most the 64th? 10. Size-count byte present? 5.
 unfoldable pub gaugeEntry : Rules → State → Answer State

@@ -1,9 +1,10 @@
 // One entry of a file of some version, read from a cursor. Each function does what the definition of the same entry
 // says, from any state that the cursor stands for.
 ghost use mathlib.Core.Path.{_≡_};
-ghost use Prim.Native.Nat.{_+_, _<_, _^_};
+ghost use mathlib.Core.List.{List};
+ghost use Prim.Native.Nat.{ℕ, _+_, _<_, _^_};
 ghost use Rattle.slicing.specs.Tree.{beside, stacked};
-ghost use Rattle.sizes.specs.Rules.{versionRules};
+ghost use Rattle.sizes.specs.GaugeSizes.{versionRules};
 ghost use Rattle.entries.specs.Entry.{joinEntry, entry};
 ghost use Rattle.entries.specs.inside.Tracking.{Fair, Does, advance};
 use crate::BESIDE;
@@ -26,11 +27,10 @@ pub fn advanced(c: Cursor, bytes: usize) -> Cursor
     }
 }
 
-// A join, after its kind byte.
-fn read_join(file: &[u8], c: Cursor) -> Step
-    requires { ⌜ Fair (now file) c ⌝ }
-    ensures { λ r. ⌜ Does (joinEntry beside) (now (file .entry)) c r ⌝ }
-    ensures { λ r. ⌜ Does (joinEntry stacked) (now (file .entry)) c r ⌝ }
+// A join, after its kind. It hangs on the number of parts alone, so it serves bytes and words.
+pub fn read_join(c: Cursor) -> Step
+    ensures { λ r. ⌜ ((l : List ℕ) → Fair l c → Does (joinEntry beside) l c r) ⌝ }
+    ensures { λ r. ⌜ ((l : List ℕ) → Fair l c → Does (joinEntry stacked) l c r) ⌝ }
 {
     if c.parts < 2 {
         return Step::Stop(checks::JOIN);
@@ -58,10 +58,10 @@ pub fn read_entry(file: &[u8], version: u32, c: Cursor) -> Step
         return read_gauge(file, version, after);
     }
     if kind == BESIDE {
-        return read_join(file, after);
+        return read_join(after);
     }
     if kind == STACKED {
-        return read_join(file, after);
+        return read_join(after);
     }
     Step::Stop(checks::KIND)
 }

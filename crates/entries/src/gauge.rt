@@ -1,5 +1,5 @@
 // A gauge entry, after its kind byte.
-ghost use Rattle.sizes.specs.Rules.{versionRules};
+ghost use Rattle.sizes.specs.GaugeSizes.{versionRules};
 ghost use Rattle.entries.specs.Entry.{gaugeEntry};
 ghost use Rattle.entries.specs.inside.Tracking.{Fair, Does};
 use crate::Cursor;

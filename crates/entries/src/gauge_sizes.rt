@@ -1,6 +1,6 @@
 // The sizes of a gauge entry, after its size-count byte.
 ghost use Prim.Native.Nat.{_<_};
-ghost use Rattle.sizes.specs.Rules.{versionRules};
+ghost use Rattle.sizes.specs.GaugeSizes.{versionRules};
 ghost use Rattle.entries.specs.Entry.{gaugeSizes};
 ghost use Rattle.entries.specs.inside.Tracking.{Fair, Does};
 use crate::Cursor;

@@ -12,6 +12,7 @@ use Rattle.slicing.specs.Item.{Item}
 use Rattle.slicing.specs.Tree.{Tree, gauge}
 use Rattle.slicing.specs.Good.{Ordered}
 use Rattle.sizes.specs.Rules.{Rules, asksOrder}
+use Rattle.sizes.specs.GaugeSizes.{versionRules}
 use Rattle.facefile.specs.declared.walk.GaugeEntry.{GaugeEntry}
 use Rattle.entries.specs.Entry.{State}
 use Rattle.entries.specs.inside.Kinds.{Cut, cut-beside, cut-stacked}
@@ -23,10 +24,10 @@ use Rattle.sizes.proofs.GoodSizes.{sizes-taken}
 
 -- What stands at a place of a list and after it, from what is left there.
 module _ (file : List ℕ) (at : ℕ) where
-  at-place : (x : ℕ) (l : List ℕ) → drop at file ≡ x ∷ l → getD file at 0 ≡ x
+  pub at-place : (x : ℕ) (l : List ℕ) → drop at file ≡ x ∷ l → getD file at 0 ≡ x
   at-place x l e = ap (λ (n : ℕ). getD file n 0) (sym (add-zero at)) ∙ sym (getD-drop at file 0 0) ∙ ap (λ (r : List ℕ). getD r 0 0) e
 
-  past-place : (k : ℕ) (l : List ℕ) → drop at file ≡ l → drop (at + k) file ≡ drop k l
+  pub past-place : (k : ℕ) (l : List ℕ) → drop at file ≡ l → drop (at + k) file ≡ drop k l
   past-place k l e = sym (drop-drop k at file) ∙ ap (drop k) e
 
   pub left-at : (l : List ℕ) → drop at file ≡ l → length file - at ≡ length l
@@ -54,12 +55,12 @@ pub record TookJoin (file : List ℕ) (at : ℕ) (s u : State) : Type 0 where
   pub two : s .stack ≡ newer ∷ older ∷ rest
   pub after : u ≡ stateAt file (at + 1) (cut older newer ∷ rest) (s .gauges)
 
-not-gauge : (kind : ℕ) (cut : Tree → Tree → Tree) → Cut kind cut → kind ≡ 0x01 → ⊥
+pub not-gauge : (kind : ℕ) (cut : Tree → Tree → Tree) → Cut kind cut → kind ≡ 0x01 → ⊥
 not-gauge kind cut cut-beside e = omega arith
 not-gauge kind cut cut-stacked e = omega arith
 
 module _ (file : List ℕ) (at : ℕ) where
-  pub gauge-read : {rules : Rules} (n : ℕ) (s u : State) → Took rules s u → drop at file ≡ s .rest → at < length file → getD file at 0 ≡ 0x01 → n ≡ getD file (at + 1) 0 → TookGauge rules file at n s u
+  pub gauge-read : {v : ℕ} (n : ℕ) (s u : State) → Took (versionRules v) s u → drop at file ≡ s .rest → at < length file → getD file at 0 ≡ 0x01 → n ≡ getD file (at + 1) 0 → TookGauge (versionRules v) file at n s u
   gauge-read n s u (took-gauge count bytes parts g z few some most present sized) here more e counted =
       let long = left-at file at (0x01 ∷ count ∷ bytes) here in
       let past : drop (at + 2) file ≡ bytes = past-place file at 2 (0x01 ∷ count ∷ bytes) here in

@@ -9,6 +9,5 @@ pub mod Reading
 pub mod Seeking
 pub mod Answered
 pub mod Prefix
-pub mod Written
 pub mod Example
 pub mod PartArray

@@ -14,8 +14,7 @@ use Rattle.checks.specs.Check.{Check, SizeCount, Present, Gauges}
 use Rattle.checks.specs.Answer.{Answer, refused, taken, ask, next}
 use Rattle.slicing.specs.Item.{Item}
 use Rattle.slicing.specs.Tree.{Tree, gauge, beside, stacked}
-use Rattle.sizes.specs.Rules.{Rules}
-use Rattle.sizes.specs.GaugeSizes.{field, within, sizeAt, sizesAfter, sizesFrom}
+use Rattle.sizes.specs.GaugeSizes.{field, within, sizeAt, versionRules, sizesAfter, sizesFrom}
 use Rattle.entries.specs.Entry.{State, gaugeTaken, gaugeSizes, gaugeEntry, joinParts, joinEntry, kindEntry, entry, entries}
 use Rattle.facefile.specs.Format.{onePart, atEnd, header, rulesOf, start, faceOf}
 use Rattle.sizes.proofs.SizeChecks.{within-true}
@@ -39,19 +38,19 @@ field-same : (m : ℕ) (l : List ℕ) (at : ℕ) → at + 1 < m → field (take 
 field-same m l at h = rw (getD-take m l at 0 (omega arith), getD-take m l (at + 1) 0 h)
 
 -- k sizes are seen in the first 4 * k bytes.
-after-same : (rules : Rules) (y : Item) (k m : ℕ) (l : List ℕ) → 4 * k ≤ m → sizesAfter rules y k (take m l) ≡ sizesAfter rules y k l
+after-same : (v : ℕ) (y : Item) (k m : ℕ) (l : List ℕ) → 4 * k ≤ m → sizesAfter (versionRules v) y k (take m l) ≡ sizesAfter (versionRules v) y k l
 unfolding sizesAfter
-after-same rules y zero m l h = refl
-after-same rules y (suc k) m l h =
+after-same v y zero m l h = refl
+after-same v y (suc k) m l h =
     simp
-    (field-same m l 0 (omega arith), field-same m l 2 (omega arith), drop-take 4 m l, after-same rules (sizeAt l) k (m - 4) (drop 4 l) (omega arith))
+    (field-same m l 0 (omega arith), field-same m l 2 (omega arith), drop-take 4 m l, after-same v (sizeAt l) k (m - 4) (drop 4 l) (omega arith))
 
-sizes-same : (rules : Rules) (k m : ℕ) (l : List ℕ) → 4 * k ≤ m → sizesFrom rules k (take m l) ≡ sizesFrom rules k l
+sizes-same : (v k m : ℕ) (l : List ℕ) → 4 * k ≤ m → sizesFrom (versionRules v) k (take m l) ≡ sizesFrom (versionRules v) k l
 unfolding sizesFrom
-sizes-same rules zero m l h = refl
-sizes-same rules (suc k) m l h =
+sizes-same v zero m l h = refl
+sizes-same v (suc k) m l h =
     simp
-    (field-same m l 0 (omega arith), field-same m l 2 (omega arith), drop-take 4 m l, after-same rules (sizeAt l) k (m - 4) (drop 4 l) (omega arith))
+    (field-same m l 0 (omega arith), field-same m l 2 (omega arith), drop-take 4 m l, after-same v (sizeAt l) k (m - 4) (drop 4 l) (omega arith))
 
 -- f answers the same to the first m of the bytes left as to all of them, where m is enough for k entries, for the gauges that may still come, and for one byte more.
 abbrev Same : ℕ → (State → Answer Tree) → Type 0
@@ -66,7 +65,7 @@ end-same (suc m) (x ∷ rest) (t ∷ []) g h = simp eqb·suc-zero
 end-same (suc m) rest (t ∷ a ∷ parts) g h = refl
 
 -- One entry more: f is what follows it.
-module _ (rules : Rules) (k : ℕ) (f : State → Answer Tree) (on : Same k f) where
+module _ (v k : ℕ) (f : State → Answer Tree) (on : Same k f) where
   ask-same : (b d : Bool) (c : Check) (x y : Answer State) → b ≡ d → (d ≡ true → next x f ≡ next y f) → next (ask b c x) f ≡ next (ask d c y) f
   ask-same true d c x y e h = rw (← e) (h (sym e))
   ask-same false d c x y e h = rw (← e)
@@ -82,20 +81,20 @@ module _ (rules : Rules) (k : ℕ) (f : State → Answer Tree) (on : Same k f) w
   join-same cut m rest (b ∷ a ∷ parts) g h = on m rest (cut a b ∷ parts) g h
 
   -- The sizes of a gauge take at most 32 bytes.
-  gauge-sizes-same : (count m : ℕ) (rest : List ℕ) (parts : List Tree) (g : ℕ) → k + 33 * (64 - (g + 1)) + 33 ≤ m → next (gaugeSizes rules count (state (take m rest) parts g)) f ≡ next (gaugeSizes rules count (state rest parts g)) f
+  gauge-sizes-same : (count m : ℕ) (rest : List ℕ) (parts : List Tree) (g : ℕ) → k + 33 * (64 - (g + 1)) + 33 ≤ m → next (gaugeSizes (versionRules v) count (state (take m rest) parts g)) f ≡ next (gaugeSizes (versionRules v) count (state rest parts g)) f
   unfolding gaugeSizes
   gauge-sizes-same count m rest parts g h =
       ask-same (within 1 8 count) (within 1 8 count) SizeCount _ _ refl (λ e.
       let most = within-true 1 8 count e .1 in
       let room : 4 * count ≤ m = omega arith in
       ask-same (leb (4 * count) (length (take m rest))) (leb (4 * count) (length rest)) Present _ _ (as-long (4 * count) m rest room) (λ p.
-      rw (sizes-same rules count m rest room, drop-take (4 * count) m rest) (sized room most (sizesFrom rules count rest))))
+      rw (sizes-same v count m rest room, drop-take (4 * count) m rest) (sized room most (sizesFrom (versionRules v) count rest))))
     where
       sized : 4 * count ≤ m → count ≤ 8 → (a : Answer (List Item)) → next (next a (gaugeTaken (state (take (m - 4 * count) (drop (4 * count) rest)) parts g))) f ≡ next (next a (gaugeTaken (state (drop (4 * count) rest) parts g))) f
       sized room most (refused c) = refl
       sized room most (taken z) = on (m - 4 * count) (drop (4 * count) rest) (gauge z ∷ parts) (g + 1) (omega arith)
 
-  gauge-same : Same k (λ s. next (gaugeEntry rules s) f)
+  gauge-same : Same k (λ s. next (gaugeEntry (versionRules v) s) f)
   unfolding gaugeEntry
   gauge-same zero rest parts g h = absurd (omega arith)
   gauge-same (suc m) [] parts g h = refl
@@ -105,7 +104,7 @@ module _ (rules : Rules) (k : ℕ) (f : State → Answer Tree) (on : Same k f) w
       ask-same (ltb 0 (suc (length (take m bytes)))) (ltb 0 (suc (length bytes))) Present _ _ (as-long 1 (suc m) (count ∷ bytes) (omega arith))
       (λ p. gauge-sizes-same count m bytes parts g (omega arith)))
 
-  entry-same : Same (suc k) (λ s. next (entry rules s) f)
+  entry-same : Same (suc k) (λ s. next (entry (versionRules v) s) f)
   unfolding entry kindEntry
   entry-same zero rest parts g h = absurd (omega arith)
   entry-same (suc m) [] parts g h = refl
@@ -120,13 +119,13 @@ next-next : (a : Answer State) (f : State → Answer State) → next (next a f) 
 next-next (refused c) f = refl
 next-next (taken s) f = refl
 
-entries-same : (rules : Rules) (k : ℕ) → Same k (λ s. next (entries rules k s) atEnd)
+entries-same : (v k : ℕ) → Same k (λ s. next (entries (versionRules v) k s) atEnd)
 unfolding entries
-entries-same rules zero m rest parts g h = end-same m rest parts g h
-entries-same rules (suc k) m rest parts g h =
-    next-next (entry rules (state (take m rest) parts g)) (entries rules k)
-    ∙ entry-same rules k (λ s. next (entries rules k s) atEnd) (entries-same rules k) m rest parts g h
-    ∙ sym (next-next (entry rules (state rest parts g)) (entries rules k))
+entries-same v zero m rest parts g h = end-same m rest parts g h
+entries-same v (suc k) m rest parts g h =
+    next-next (entry (versionRules v) (state (take m rest) parts g)) (entries (versionRules v) k)
+    ∙ entry-same v k (λ s. next (entries (versionRules v) k s) atEnd) (entries-same v k) m rest parts g h
+    ∙ sym (next-next (entry (versionRules v) (state rest parts g)) (entries (versionRules v) k))
 
 header-same : (m : ℕ) (s : List ℕ) → 7 ≤ m → header (take m s) ≡ header s
 unfolding header
@@ -143,4 +142,4 @@ face-prefix s = rw (header-same 2_247 s (omega arith)) (by (header s) refl)
     by (taken count) e =
         let head = header-taken s count e in
         let most = head .0 .most in
-        rw (field-same 2_247 s 3 (omega arith), drop-take 7 2_247 s) (entries-same (rulesOf s) count 2_240 (drop 7 s) [] 0 (omega (arith, head .1)))
+        rw (field-same 2_247 s 3 (omega arith), drop-take 7 2_247 s) (entries-same (field s 3) count 2_240 (drop 7 s) [] 0 (omega (arith, head .1)))

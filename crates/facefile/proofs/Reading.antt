@@ -16,13 +16,14 @@ use Rattle.entries.specs.declared.Cursor.{Cursor}
 use Rattle.facefile.specs.declared.Face.{Face}
 use Rattle.entries.specs.declared.Step.{Step}
 use Rattle.entries.specs.declared.Step.the-variants.{Stop, Next}
-use Rattle.sizes.specs.Rules.{Rules, versionRules}
-use Rattle.sizes.specs.GaugeSizes.{field, within}
+use Rattle.sizes.specs.Rules.{Rules}
+use Rattle.sizes.specs.GaugeSizes.{field, within, versionRules}
 use Rattle.entries.specs.Entry.{State, entry, entries}
 use Rattle.facefile.specs.Format.{marked, header, rulesOf, start, onePart, atEnd, faceOf}
 use Rattle.facefile.specs.Summary.{refusedFace, summary}
 use Rattle.entries.specs.inside.Tracking.{flat, Fair, Tracks, Follows, Does}
 use Rattle.facefile.specs.inside.Ending.{Ends}
+use Rattle.facefile.specs.inside.Walk.{stateAt}
 use Rattle.facefile.proofs.Taken.{header-taken}
 
 -- The first three bytes are `FCE` exactly where the definition's test says so.
@@ -94,30 +95,30 @@ module _ (s : List ℕ) where
               simp (le-leb 7 (length s) long, mark, one-or-two, inside)
 
 -- What the loop over the entries keeps.
-pub record Reading (rules : Rules) (file : List ℕ) (count : ℕ) (c : Cursor) (i : ℕ) : Type 0 where
+pub record Reading (rules : Rules) (file : List ℕ) (from : State) (count : ℕ) (c : Cursor) (i : ℕ) : Type 0 where
   pub inside : i ≤ count
   pub fair : Fair file c
   pub state : State
   pub tracks : Tracks file c state
-  pub same : entries rules (count - i) state ≡ entries rules count (start file)
+  pub same : entries rules (count - i) state ≡ entries rules count from
 
-pub reading-start : (rules : Rules) (file : List ℕ) (count : ℕ) → 7 ≤ length file → Reading rules file count (record { at = 7; parts = 0; gauges = 0; sizes = 0 }) 0
-reading-start rules file count h =
+pub reading-start : (rules : Rules) (file : List ℕ) (at count : ℕ) → at ≤ length file → Reading rules file (stateAt file at [] 0) count (record { at = at; parts = 0; gauges = 0; sizes = 0 }) 0
+reading-start rules file at count h =
     record {
       inside = omega arith;
       fair = record { inside = h; parts-few = omega arith; gauges-few = omega arith; sizes-few = omega arith };
-      state = start file;
+      state = stateAt file at [] 0;
       tracks = record { rest = refl; parts = refl; gauges = refl; gauge-total = refl; size-total = refl };
-      same = let e : count - 0 ≡ count = omega arith in ap (λ (n : ℕ). entries rules n (start file)) e;
+      same = let e : count - 0 ≡ count = omega arith in ap (λ (n : ℕ). entries rules n (stateAt file at [] 0)) e;
     }
 
 -- One turn, whose step is r.
-module _ (rules : Rules) (file : List ℕ) (count : ℕ) (c : Cursor) (i : ℕ) (r : Step) (k : Reading rules file count c i) (more : i < count) (does : Does (entry rules) file c r) where
-  steps : next (entry rules (k .state)) (entries rules (count - (i + 1))) ≡ entries rules count (start file)
+module _ (rules : Rules) (file : List ℕ) (from : State) (count : ℕ) (c : Cursor) (i : ℕ) (r : Step) (k : Reading rules file from count c i) (more : i < count) (does : Does (entry rules) file c r) where
+  steps : next (entry rules (k .state)) (entries rules (count - (i + 1))) ≡ entries rules count from
   unfolding entries
   steps =
       let e : count - i ≡ suc (count - (i + 1)) = omega arith in
-      subst (λ (n : ℕ). entries rules n (k .state) ≡ entries rules count (start file)) e (k .same)
+      subst (λ (n : ℕ). entries rules n (k .state) ≡ entries rules count from) e (k .same)
 
   said : Follows file (entry rules (k .state)) r
   unfolding Does
@@ -127,25 +128,25 @@ module _ (rules : Rules) (file : List ℕ) (count : ℕ) (c : Cursor) (i : ℕ) 
   stopped (refused x) n f = f
   stopped (taken s) n f = absurd f
 
-  pub reading-stop : (n : ℕ) → r ≡ Stop n → Follows file (entries rules count (start file)) (Stop n)
+  pub reading-stop : (n : ℕ) → r ≡ Stop n → Follows file (entries rules count from) (Stop n)
   reading-stop n e = rw (← steps) (stopped (entry rules (k .state)) n (subst (λ (x : Step). Follows file (entry rules (k .state)) x) e said))
 
-  went : (a : Answer State) (d : Cursor) → Follows file a (Next d) → next a (entries rules (count - (i + 1))) ≡ entries rules count (start file) → Reading rules file count d (i + 1)
+  went : (a : Answer State) (d : Cursor) → Follows file a (Next d) → next a (entries rules (count - (i + 1))) ≡ entries rules count from → Reading rules file from count d (i + 1)
   went (refused x) d f e = absurd f
   went (taken s) d f e = record { inside = omega arith; fair = f .0; state = s; tracks = f .1; same = e }
 
-  pub reading-next : (d : Cursor) → r ≡ Next d → Reading rules file count d (i + 1)
+  pub reading-next : (d : Cursor) → r ≡ Next d → Reading rules file from count d (i + 1)
   reading-next d e = went (entry rules (k .state)) d (subst (λ (x : Step). Follows file (entry rules (k .state)) x) e said) steps
 
-pub reading-done : (rules : Rules) (file : List ℕ) (count : ℕ) (c : Cursor) (i : ℕ) → Reading rules file count c i → count ≤ i → Follows file (entries rules count (start file)) (Next c)
+pub reading-done : (rules : Rules) (file : List ℕ) (from : State) (count : ℕ) (c : Cursor) (i : ℕ) → Reading rules file from count c i → count ≤ i → Follows file (entries rules count from) (Next c)
 unfolding entries
-reading-done rules file count c i k h =
+reading-done rules file from count c i k h =
     let none : count - i ≡ 0 = omega arith in
-    let all : taken (k .state) ≡ entries rules count (start file) = subst (λ (n : ℕ). entries rules n (k .state) ≡ entries rules count (start file)) none (k .same) in
+    let all : taken (k .state) ≡ entries rules count from = subst (λ (n : ℕ). entries rules n (k .state) ≡ entries rules count from) none (k .same) in
     subst (λ (a : Answer State). Follows file a (Next c)) all (k .fair, k .tracks)
 
 -- The end: one law for each way out.
-refused-face : (f : Face) (n : ℕ) (c : Check) → f ≡ refusedFace n → n ≡ numberOf c → f ≡ summary (refused c)
+pub refused-face : (f : Face) (n : ℕ) (c : Check) → f ≡ refusedFace n → n ≡ numberOf c → f ≡ summary (refused c)
 unfolding summary
 refused-face f n c e h = e ∙ ap refusedFace h
 
@@ -188,49 +189,51 @@ end-taken file c one h s t =
     let left = ap length (t .rest) ∙ length-drop (c .at) file in
     one-left (s .stack) (s .rest) (c .gauges) (c .sizes) (t .parts ∙ one) (omega arith) (t .gauge-total) (t .size-total)
 
--- The whole file: one law for each way out.
-module _ (file : List ℕ) where
-  pub header-long : (n : ℕ) → n ≡ number (header file) → n ≡ 0 → 7 ≤ length file
-  header-long n e z =
-      let head = number-taken (header file) (sym e ∙ z) in header-taken file (head .0) (head .1) .0 .long
-
-  pub read-header : (f : Face) (n : ℕ) → n ≡ number (header file) → (n ≡ 0 → ⊥) → f ≡ refusedFace n → f ≡ summary (faceOf file)
-  unfolding faceOf
-  read-header f n e h g =
-      let bad = number-refused (header file) n e h in
-      refused-face f n (bad .0) g (bad .2)
-      ∙ ap (λ (a : Answer ℕ). summary (next a (λ count. next (entries (rulesOf file) count (start file)) atEnd))) (sym (bad .1))
-
-  pub read-fair : (rules : Rules) (k : ℕ) (r : Step) (c : Cursor) → Follows file (entries rules k (start file)) r → r ≡ Next c → Fair file c
-  read-fair rules k r c follows e = by (entries rules k (start file)) (subst (λ (x : Step). Follows file (entries rules k (start file)) x) e follows)
+-- The entries from a state on, and then the end: what a step of them says of the answer to all.
+module _ (file : List ℕ) (rules : Rules) (from : State) (k : ℕ) (r : Step) (follows : Follows file (entries rules k from) r) where
+  pub read-fair : (c : Cursor) → r ≡ Next c → Fair file c
+  read-fair c e = by (entries rules k from) (subst (λ (x : Step). Follows file (entries rules k from) x) e follows)
     where
       by : (a : Answer State) → Follows file a (Next c) → Fair file c
       by (refused x) h = absurd h
       by (taken s) h = h .0
 
-  module _ (n v k : ℕ) (head : n ≡ number (header file)) (zero-number : n ≡ 0) (version : v ≡ field file 3) (count : k ≡ field file 5) where
-    headed : next (entries (versionRules v) k (start file)) atEnd ≡ faceOf file
-    unfolding faceOf
-    headed =
-        let good = number-taken (header file) (sym head ∙ zero-number) in
-        let same = header-taken file (good .0) (good .1) .1 in
-        ap (λ (x : ℕ). next (entries (versionRules x) k (start file)) atEnd) version
-        ∙ ap (λ (j : ℕ). next (entries (rulesOf file) j (start file)) atEnd) (count ∙ same)
-        ∙ ap (λ (a : Answer ℕ). next a (λ j. next (entries (rulesOf file) j (start file)) atEnd)) (sym (good .1))
-
-    pub read-stop : (f : Face) (m : ℕ) (r : Step) → Follows file (entries (versionRules v) k (start file)) r → r ≡ Stop m → f ≡ refusedFace m → f ≡ summary (faceOf file)
-    read-stop f m r follows e g =
-        rw (← headed) (by (entries (versionRules v) k (start file)) (subst (λ (x : Step). Follows file (entries (versionRules v) k (start file)) x) e follows))
+  module _ (face : Answer Tree) (f : Face) (all : next (entries rules k from) atEnd ≡ face) where
+    pub read-stop : (m : ℕ) → r ≡ Stop m → f ≡ refusedFace m → f ≡ summary face
+    read-stop m e g =
+        rw (← all) (by (entries rules k from) (subst (λ (x : Step). Follows file (entries rules k from) x) e follows))
       where
         by : (a : Answer State) → Follows file a (Stop m) → f ≡ summary (next a atEnd)
         by (refused c) h = refused-face f m c g h
         by (taken s) h = absurd h
 
-    pub read-next : (f : Face) (r : Step) (c : Cursor) → Follows file (entries (versionRules v) k (start file)) r → r ≡ Next c → Ends file c f → f ≡ summary (faceOf file)
+    pub read-next : (c : Cursor) → r ≡ Next c → Ends file c f → f ≡ summary face
     unfolding Ends
-    read-next f r c follows e ends =
-        rw (← headed) (by (entries (versionRules v) k (start file)) (subst (λ (x : Step). Follows file (entries (versionRules v) k (start file)) x) e follows))
+    read-next c e ends =
+        rw (← all) (by (entries rules k from) (subst (λ (x : Step). Follows file (entries rules k from) x) e follows))
       where
         by : (a : Answer State) → Follows file a (Next c) → f ≡ summary (next a atEnd)
         by (refused x) h = absurd h
         by (taken s) h = ends s (h .1)
+
+-- The whole file, by its header.
+module _ (file : List ℕ) (n : ℕ) (head : n ≡ number (header file)) where
+  pub header-long : n ≡ 0 → 7 ≤ length file
+  header-long z =
+      let good = number-taken (header file) (sym head ∙ z) in header-taken file (good .0) (good .1) .0 .long
+
+  pub read-header : (f : Face) → (n ≡ 0 → ⊥) → f ≡ refusedFace n → f ≡ summary (faceOf file)
+  unfolding faceOf
+  read-header f h g =
+      let bad = number-refused (header file) n head h in
+      refused-face f n (bad .0) g (bad .2)
+      ∙ ap (λ (a : Answer ℕ). summary (next a (λ count. next (entries (rulesOf file) count (start file)) atEnd))) (sym (bad .1))
+
+  pub headed : (v k : ℕ) → n ≡ 0 → v ≡ field file 3 → k ≡ field file 5 → next (entries (versionRules v) k (start file)) atEnd ≡ faceOf file
+  unfolding faceOf
+  headed v k z version count =
+      let good = number-taken (header file) (sym head ∙ z) in
+      let same = header-taken file (good .0) (good .1) .1 in
+      ap (λ (x : ℕ). next (entries (versionRules x) k (start file)) atEnd) version
+      ∙ ap (λ (j : ℕ). next (entries (rulesOf file) j (start file)) atEnd) (count ∙ same)
+      ∙ ap (λ (a : Answer ℕ). next a (λ j. next (entries (rulesOf file) j (start file)) atEnd)) (sym (good .1))

@@ -12,7 +12,7 @@ use Rattle.checks.proofs.FileChecks.{FileCheck, of-length, of-mark, of-version,
 use Rattle.slicing.specs.Item.{Item}
 use Rattle.slicing.specs.Tree.{Tree, beside, stacked}
 use Rattle.sizes.specs.Rules.{Rules}
-use Rattle.sizes.specs.GaugeSizes.{field, within, limited, inOrder, sizeAt, sizesAfter, sizesFrom}
+use Rattle.sizes.specs.GaugeSizes.{field, within, limited, inOrder, sizesAfter, sizesFrom}
 use Rattle.entries.specs.Entry.{State, skip, gaugeSizes, gaugeEntry, joinParts, joinEntry, kindEntry, entry, entries}
 use Rattle.facefile.specs.Format.{marked, header, rulesOf, start, onePart, atEnd, faceOf}
 
@@ -31,16 +31,16 @@ after-by : (rules : Rules) (y : Item) (k : ℕ) (bytes : List ℕ) → ByFile (s
 unfolding sizesAfter
 after-by rules y zero bytes = tt
 after-by rules y (suc k) bytes =
-    asks (limited (sizeAt bytes)) Limits _ of-limits
-    (asks (inOrder rules y (sizeAt bytes)) Order _ of-order
-    (next-refused FileCheck (sizesAfter rules (sizeAt bytes) k (drop 4 bytes)) _ (after-by rules (sizeAt bytes) k (drop 4 bytes)) (λ zs. tt)))
+    asks (limited (rules .sizeOf bytes)) Limits _ of-limits
+    (asks (inOrder rules y (rules .sizeOf bytes)) Order _ of-order
+    (next-refused FileCheck (sizesAfter rules (rules .sizeOf bytes) k (drop (rules .step) bytes)) _ (after-by rules (rules .sizeOf bytes) k (drop (rules .step) bytes)) (λ zs. tt)))
 
 sizes-by : (rules : Rules) (k : ℕ) (bytes : List ℕ) → ByFile (sizesFrom rules k bytes)
 unfolding sizesFrom
 sizes-by rules zero bytes = tt
 sizes-by rules (suc k) bytes =
-    asks (limited (sizeAt bytes)) Limits _ of-limits
-    (next-refused FileCheck (sizesAfter rules (sizeAt bytes) k (drop 4 bytes)) _ (after-by rules (sizeAt bytes) k (drop 4 bytes)) (λ zs. tt))
+    asks (limited (rules .sizeOf bytes)) Limits _ of-limits
+    (next-refused FileCheck (sizesAfter rules (rules .sizeOf bytes) k (drop (rules .step) bytes)) _ (after-by rules (rules .sizeOf bytes) k (drop (rules .step) bytes)) (λ zs. tt))
 
 gauge-by : (rules : Rules) (s : State) → ByFile (gaugeEntry rules s)
 unfolding gaugeEntry gaugeSizes
@@ -48,7 +48,7 @@ gauge-by rules s =
     asks (ltb (s .gauges) 64) Gauges _ of-gauges
     (asks (ltb 0 (length (s .rest))) Present _ of-present
     (asks (within 1 8 (getD (s .rest) 0 0)) SizeCount _ of-size-count
-    (asks (leb (4 * getD (s .rest) 0 0) (length (drop 1 (s .rest)))) Present _ of-present
+    (asks (leb (rules .step * getD (s .rest) 0 0) (length (drop 1 (s .rest)))) Present _ of-present
     (next-refused FileCheck (sizesFrom rules (getD (s .rest) 0 0) (drop 1 (s .rest))) _ (sizes-by rules (getD (s .rest) 0 0) (drop 1 (s .rest))) (λ zs. tt)))))
 
 parts-by : (cut : Tree → Tree → Tree) (parts : List Tree) → ByFile (joinParts cut parts)

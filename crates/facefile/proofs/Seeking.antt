@@ -11,14 +11,14 @@ use Rattle.slicing.specs.Tree.{Tree, gauge, gaugesOf}
 use Rattle.facefile.specs.declared.walk.GaugeEntry.{GaugeEntry}
 use Rattle.facefile.specs.declared.walk.Entry.{Entry}
 use Rattle.facefile.specs.declared.walk.Entry.the-variants.{Gauge, Join}
-use Rattle.facefile.specs.Format.{faceOf}
+use Rattle.facefile.specs.Format.{Bytes, faceOf}
 use Rattle.facefile.specs.Gauge.{sizeBytes, gaugeNumbered, gaugeBytes}
 use Rattle.entries.specs.inside.Tracking.{flat}
 use Rattle.sizes.specs.inside.Sizes.{sizesIn}
 use Rattle.facefile.specs.inside.Finding.{Found}
 use Rattle.facefile.specs.inside.Walk.{firstEntry, Walk, sizeBytesOf, GaugeAt, JoinAt, Finds}
 use Rattle.entries.proofs.Stacks.{join-flat, gauges-join}
-use Rattle.facefile.proofs.SizeBytes.{Bytes, stretch-bytes}
+use Rattle.facefile.proofs.SizeBytes.{stretch-bytes}
 use Rattle.facefile.proofs.WalkSteps.{walk-start, walk-end, found-gauge, found-join}
 use Rattle.facefile.proofs.WalkStack.{walk-flat}
 

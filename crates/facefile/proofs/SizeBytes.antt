@@ -8,15 +8,11 @@ use lib.ListN.{length, getD, take, drop, length-drop}
 use lib.Seq.{take-add, take-length, getD-drop}
 use Rattle.checks.specs.Answer.{taken}
 use Rattle.slicing.specs.Item.{Item}
-use Rattle.sizes.specs.Rules.{Rules}
-use Rattle.sizes.specs.GaugeSizes.{sizeAt, sizesFrom}
+use Rattle.sizes.specs.GaugeSizes.{sizeAt, sizesFrom, versionRules}
+use Rattle.facefile.specs.Format.{Bytes}
 use Rattle.facefile.specs.Gauge.{sizeBytes}
 use Rattle.sizes.specs.inside.Sizes.{sizesIn, Sized}
 use Rattle.sizes.proofs.SizesIn.{from-in}
-
--- Every element is a byte.
-abbrev pub Bytes : List ℕ → Type 0
-Bytes s = (i : ℕ) → getD s i 0 < 256
 
 pub bytes-drop : (k : ℕ) (s : List ℕ) → Bytes s → Bytes (drop k s)
 bytes-drop k s h i = rw getD-drop (h (k + i))
@@ -71,5 +67,5 @@ stretch-bytes n k from s b sized =
     sym (ap (λ (j : ℕ). take j x) (sym sized) ∙ take-length x)
     ∙ in-bytes n x (bytes-take k (drop from s) (bytes-drop from s b)) (omega arith)
 
-pub sizes-bytes : (rules : Rules) (count : ℕ) (s : List ℕ) (zs : List Item) → Bytes s → 4 * count ≤ length s → sizesFrom rules count s ≡ taken zs → take (4 * count) s ≡ sizeBytes zs
-sizes-bytes rules count s zs b h e = in-bytes count s b h ∙ ap sizeBytes (sym (from-in rules count s zs e))
+pub sizes-bytes : (v count : ℕ) (s : List ℕ) (zs : List Item) → Bytes s → 4 * count ≤ length s → sizesFrom (versionRules v) count s ≡ taken zs → take (4 * count) s ≡ sizeBytes zs
+sizes-bytes v count s zs b h e = in-bytes count s b h ∙ ap sizeBytes (sym (from-in v count s zs e))

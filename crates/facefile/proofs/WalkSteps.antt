@@ -17,10 +17,10 @@ use Rattle.facefile.specs.declared.walk.Entry.the-variants.{Gauge, Join}
 use Rattle.entries.specs.Entry.{State, entry, entries}
 use Rattle.facefile.specs.Format.{rulesOf, start, atEnd, faceOf, header}
 use Rattle.sizes.specs.inside.Sizes.{sizesIn}
-use Rattle.facefile.specs.inside.Walk.{firstEntry, stateAt, Walk, sizeBytesOf, GaugeAt, JoinAt, EntryAt, Finds}
+use Rattle.facefile.specs.inside.Walk.{firstEntry, stateAt, Walk, sizeBytesOf, GaugeAt, JoinBy, JoinAt, EntryAt, Finds}
 use Rattle.entries.proofs.Took.{state, Took, took-gauge, took-join, entry-took, Reads, reads-none, reads-more}
 use Rattle.facefile.proofs.Taken.{header-taken, end-taken, end-read}
-use Rattle.facefile.proofs.EntryBytes.{left-at, gaugeEntryAt, gauge-read, join-read, bytes-long, bytes-sizes}
+use Rattle.facefile.proofs.EntryBytes.{left-at, gaugeEntryAt, TookJoin, gauge-read, join-read, bytes-long, bytes-sizes}
 
 pub walk-start : (file : List ℕ) (t : Tree) → faceOf file ≡ taken t → Walk file t firstEntry []
 unfolding faceOf entries
@@ -47,13 +47,13 @@ entries-more rules (suc k) s t u e f =
     ap (λ (a : Answer State). next a (entries rules (suc k))) (first .1) ∙ entries-more rules k (first .0) t u (first .2) f
 
 -- The next entry is taken, and what is left after it gives the face.
-record Taking (rules : Rules) (face : Tree) (s : State) : Type 0 where
-  after : State
-  takes : entry rules s ≡ taken after
-  left : ℕ
-  gives : next (entries rules left after) atEnd ≡ taken face
+pub record Taking (rules : Rules) (face : Tree) (s : State) : Type 0 where
+  pub after : State
+  pub takes : entry rules s ≡ taken after
+  pub left : ℕ
+  pub gives : next (entries rules left after) atEnd ≡ taken face
 
-taking : (rules : Rules) (k : ℕ) (face : Tree) (s : State) → next (entries rules k s) atEnd ≡ taken face → (s .rest ≡ [] → ⊥) → Taking rules face s
+pub taking : (rules : Rules) (k : ℕ) (face : Tree) (s : State) → next (entries rules k s) atEnd ≡ taken face → (s .rest ≡ [] → ⊥) → Taking rules face s
 unfolding entries atEnd
 taking rules zero face s e some = absurd (some (end-taken (s .stack) (s .rest) face e .1))
 taking rules (suc k) face s e some =
@@ -64,6 +64,20 @@ taking rules (suc k) face s e some =
       takes = first .1;
       left = k;
       gives = ap (λ (a : Answer State). next a atEnd) (first .2) ∙ all .2;
+    }
+
+-- A join that was taken at the place, behind which a walk by W goes on.
+pub join-found : (W : ℕ → List Tree → Type 0) (file : List ℕ) (at : ℕ) (s u : State) (r : TookJoin file at s u) → W (at + 1) (r .cut (r .older) (r .newer) ∷ r .rest) → JoinBy W at (s .stack) (getD file at 0) (at + 1)
+join-found W file at s u r behind =
+    record {
+      cut = r .cut;
+      older = r .older;
+      newer = r .newer;
+      rest = r .rest;
+      is-cut = r .is-cut;
+      two = r .two;
+      further = omega arith;
+      walk = behind;
     }
 
 -- The entry at the place of a walk, and the walk behind it.
@@ -112,16 +126,8 @@ module _ (file : List ℕ) (face : Tree) (at : ℕ) (stack : List Tree) (w : Wal
     join-here : (getD file at 0 ≡ 0x01 → ⊥) → JoinAt file face at stack (getD file at 0) (at + 1)
     join-here e =
         let r = join-read file at here (taken-here .after) took-here refl e in
-        record {
-          cut = r .cut;
-          older = r .older;
-          newer = r .newer;
-          rest = r .rest;
-          is-cut = r .is-cut;
-          two = r .two;
-          further = omega arith;
-          walk = walk-behind (at + 1) (r .cut (r .older) (r .newer) ∷ r .rest) (w .gauges) (r .after) (omega arith);
-        }
+        join-found (Walk file face) file at here (taken-here .after) r
+        (walk-behind (at + 1) (r .cut (r .older) (r .newer) ∷ r .rest) (w .gauges) (r .after) (omega arith))
 
   -- The entries that are left.
   pub walk-reads : (last : ℕ) × Reads (rulesOf file) (w .left) here (state [] (face ∷ []) last)
@@ -170,7 +176,7 @@ no-took : {rules : Rules} (s u : State) → Took rules s u → s .rest ≡ [] �
 no-took s u (took-gauge count bytes parts g z few some most present sized) e = cons≢nil e
 no-took s u (took-join kind cut bytes a b parts g c) e = cons≢nil e
 
-no-entry : {rules : Rules} (k : ℕ) (s f : State) → Reads rules k s f → s .rest ≡ [] → s .stack ≡ f .stack
+pub no-entry : {rules : Rules} (k : ℕ) (s f : State) → Reads rules k s f → s .rest ≡ [] → s .stack ≡ f .stack
 no-entry k s f (reads-none x) e = refl
 no-entry k s f (reads-more j x u y first rest) e = absurd (no-took s u first e)
 

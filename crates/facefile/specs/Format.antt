@@ -1,15 +1,19 @@
 -- Document 01, "The face file" and "The checks, as questions", up to check 13, with document 02's versions: any bytes, taken to the slicing tree that they mean, or refused with the first check that they fail.
 use mathlib.Core.Bool.{Bool, _&&_}
 use mathlib.Core.List.{List, [], _∷_}
-use Prim.Native.Nat.{ℕ}
+use Prim.Native.Nat.{ℕ, _<_}
 use lib.ListN.{length, getD, drop}
 use lib.Dec.{leb, eqb}
 use Rattle.checks.specs.Check.{Length, Mark, Version, Entries, OnePart, AtEnd}
 use Rattle.checks.specs.Answer.{Answer, refused, taken, ask, next}
 use Rattle.slicing.specs.Tree.{Tree}
-use Rattle.sizes.specs.Rules.{Rules, versionRules}
-use Rattle.sizes.specs.GaugeSizes.{field, within}
+use Rattle.sizes.specs.Rules.{Rules}
+use Rattle.sizes.specs.GaugeSizes.{field, within, versionRules}
 use Rattle.entries.specs.Entry.{State, entries}
+
+-- The numbers of a file are bytes.
+abbrev pub Bytes : List ℕ → Type 0
+Bytes s = (i : ℕ) → getD s i 0 < 256
 
 -- First three `FCE`?
 abbrev pub marked : List ℕ → Bool

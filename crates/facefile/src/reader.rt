@@ -1,10 +1,11 @@
 // The whole file: checks 1 to 13.
 ghost use mathlib.Core.Path.{_≡_};
-ghost use Prim.Native.Nat.{_≤_};
+ghost use mathlib.Core.List.{List};
+ghost use Prim.Native.Nat.{ℕ, _≤_};
 ghost use lib.ListN.{length};
 ghost use Rattle.checks.specs.Answer.{number};
 ghost use Rattle.entries.specs.Entry.{entries};
-ghost use Rattle.sizes.specs.Rules.{versionRules};
+ghost use Rattle.sizes.specs.GaugeSizes.{versionRules};
 ghost use Rattle.facefile.specs.Format.{header, start, faceOf};
 ghost use Rattle.facefile.specs.Summary.{refusedFace, summary};
 ghost use Rattle.entries.specs.inside.Tracking.{Fair, Follows};
@@ -60,15 +61,14 @@ fn read_entries(file: &[u8], version: u32, count: usize) -> Step
     Step::Next(c)
 }
 
-// After the last entry: checks 12 and 13.
-fn read_end(file: &[u8], c: Cursor) -> Face
-    requires { ⌜ Fair (now file) c ⌝ }
-    ensures { λ r. ⌜ Ends (now (file .entry)) c r ⌝ }
+// After the last entry, of so many bytes or words in all: checks 12 and 13.
+pub fn read_end(total: usize, c: Cursor) -> Face
+    ensures { λ r. ⌜ ((l : List ℕ) → length l ≡ total → Fair l c → Ends l c r) ⌝ }
 {
     if c.parts != 1 {
         return refused(checks::ONE_PART);
     }
-    if c.at != file.len() {
+    if c.at != total {
         return refused(checks::AT_END);
     }
     Face {
@@ -78,7 +78,8 @@ fn read_end(file: &[u8], c: Cursor) -> Face
     }
 }
 
-fn refused(number: u32) -> Face
+// The answer that a check refuses with.
+pub fn refused(number: u32) -> Face
     ensures { λ r. ⌜ r ≡ refusedFace number ⌝ }
 {
     Face {
@@ -100,6 +101,6 @@ pub fn read(file: &[u8]) -> Face
     let count = field(file, 5);
     match read_entries(file, version, count as usize) {
         Step::Stop(number) => refused(number),
-        Step::Next(c) => read_end(file, c),
+        Step::Next(c) => read_end(file.len(), c),
     }
 }

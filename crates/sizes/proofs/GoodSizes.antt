@@ -14,7 +14,7 @@ use Rattle.checks.proofs.Answers.{same-taken, ask-taken, next-taken}
 use Rattle.slicing.specs.Item.{Item, height, width}
 use Rattle.slicing.specs.Good.{Limited, Ordered, GoodGauge}
 use Rattle.sizes.specs.Rules.{Rules, asksOrder}
-use Rattle.sizes.specs.GaugeSizes.{within, sizeAt, limited, ordered, inOrder, sizesAfter, sizesFrom}
+use Rattle.sizes.specs.GaugeSizes.{within, limited, ordered, inOrder, sizesAfter, sizesFrom}
 use Rattle.sizes.proofs.SizeChecks.{within-true}
 
 limited-true : (z : Item) → limited z ≡ true → Limited z
@@ -79,12 +79,12 @@ after-taken : (rules : Rules) (y : Item) (k : ℕ) (bytes : List ℕ) (zs : List
 unfolding sizesAfter
 after-taken rules y zero bytes zs e = rw (← same-taken [] zs e) (rest-none rules y)
 after-taken rules y (suc k) bytes zs e =
-    let limits = ask-taken (limited (sizeAt bytes)) _ _ zs e in
-    let order = ask-taken (inOrder rules y (sizeAt bytes)) _ _ zs (limits .1) in
-    let more = next-taken (sizesAfter rules (sizeAt bytes) k (drop 4 bytes)) (λ xs. taken (sizeAt bytes ∷ xs)) zs (order .1) in
-    rw (← same-taken (sizeAt bytes ∷ more .0) zs (more .2))
-    (rest-more rules y (sizeAt bytes) k (more .0) (limited-true (sizeAt bytes) (limits .0))
-    (asked-true rules y (sizeAt bytes) (order .0)) (after-taken rules (sizeAt bytes) k (drop 4 bytes) (more .0) (more .1)))
+    let limits = ask-taken (limited (rules .sizeOf bytes)) _ _ zs e in
+    let order = ask-taken (inOrder rules y (rules .sizeOf bytes)) _ _ zs (limits .1) in
+    let more = next-taken (sizesAfter rules (rules .sizeOf bytes) k (drop (rules .step) bytes)) (λ xs. taken (rules .sizeOf bytes ∷ xs)) zs (order .1) in
+    rw (← same-taken (rules .sizeOf bytes ∷ more .0) zs (more .2))
+    (rest-more rules y (rules .sizeOf bytes) k (more .0) (limited-true (rules .sizeOf bytes) (limits .0))
+    (asked-true rules y (rules .sizeOf bytes) (order .0)) (after-taken rules (rules .sizeOf bytes) k (drop (rules .step) bytes) (more .0) (more .1)))
 
 -- A gauge that is taken is good, has as many sizes as its count says, and has them in order where that is asked.
 pub record TakenSizes (rules : Rules) (count : ℕ) (zs : List Item) : Type 0 where
@@ -104,8 +104,8 @@ pub sizes-taken : (rules : Rules) (count : ℕ) (bytes : List ℕ) (zs : List It
 unfolding sizesFrom
 sizes-taken rules zero bytes zs some few e = absurd (omega arith)
 sizes-taken rules (suc k) bytes zs some few e =
-    let limits = ask-taken (limited (sizeAt bytes)) _ _ zs e in
-    let more = next-taken (sizesAfter rules (sizeAt bytes) k (drop 4 bytes)) (λ xs. taken (sizeAt bytes ∷ xs)) zs (limits .1) in
-    let rest = after-taken rules (sizeAt bytes) k (drop 4 bytes) (more .0) (more .1) in
-    rw (← same-taken (sizeAt bytes ∷ more .0) zs (more .2))
-    (taken-more rules (sizeAt bytes) k (more .0) few (limited-true (sizeAt bytes) (limits .0)) rest)
+    let limits = ask-taken (limited (rules .sizeOf bytes)) _ _ zs e in
+    let more = next-taken (sizesAfter rules (rules .sizeOf bytes) k (drop (rules .step) bytes)) (λ xs. taken (rules .sizeOf bytes ∷ xs)) zs (limits .1) in
+    let rest = after-taken rules (rules .sizeOf bytes) k (drop (rules .step) bytes) (more .0) (more .1) in
+    rw (← same-taken (rules .sizeOf bytes ∷ more .0) zs (more .2))
+    (taken-more rules (rules .sizeOf bytes) k (more .0) few (limited-true (rules .sizeOf bytes) (limits .0)) rest)

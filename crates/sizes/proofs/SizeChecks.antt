@@ -4,6 +4,7 @@ use mathlib.Core.Path.{_≡_, refl, sym, ap, subst, _∙_}
 use mathlib.Core.Bool.{Bool, true, false, not, and-eq-true-iff}
 use mathlib.Core.List.{List, _∷_}
 use Prim.Native.Nat.{ℕ, zero, suc, _+_, _-_, _*_, _≤_, _<_}
+use native.Mathlib.Nat.{mul-one, mul-add}
 use native.Mathlib.Omega.{arith}
 use lib.ListN.{getD, drop}
 use lib.Dec.{leb, ltb, eqb}
@@ -13,8 +14,8 @@ use Rattle.checks.specs.Check.{Limits, Order}
 use Rattle.checks.specs.Answer.{Answer, refused, taken, ask, next, number}
 use Rattle.slicing.specs.Item.{Item, size}
 use Rattle.sizes.specs.inside.Sizes.{sizeNumber}
-use Rattle.sizes.specs.Rules.{Rules, versionRules}
-use Rattle.sizes.specs.GaugeSizes.{field, within, limited, ordered, inOrder, sizeAt, sizesAfter, sizesFrom}
+use Rattle.sizes.specs.Rules.{Rules}
+use Rattle.sizes.specs.GaugeSizes.{field, within, limited, ordered, inOrder, sizeAt, versionRules, sizesAfter, sizesFrom}
 
 -- Answers of `a && b`: where a holds it is b, and where it does not it is a.
 pub within-yes : (low high x : ℕ) → low ≤ x → leb x high ≡ within low high x
@@ -56,8 +57,11 @@ field-drop s at k = rw (getD-drop at s k 0, getD-drop at s (k + 1) 0) (omega-fre
 pub size-at : (s : List ℕ) (at h w : ℕ) → h ≡ field s at → w ≡ field s (at + 2) → size h w ≡ sizeAt (drop at s)
 size-at s at h w e f = let z : at + 0 ≡ at = omega arith in rw (e, f, field-drop s at 0, field-drop s at 2, z)
 
-size-below : (s : List ℕ) (at k : ℕ) → drop 4 (drop (at + 4 * k) s) ≡ drop (at + 4 * (k + 1)) s
-size-below s at k = let e : at + 4 * k + 4 ≡ at + 4 * (k + 1) = omega arith in rw (drop-drop, e)
+size-below : (step : ℕ) (s : List ℕ) (at k : ℕ) → drop step (drop (at + step * k) s) ≡ drop (at + step * (k + 1)) s
+size-below step s at k =
+    let more = mul-add step k 1 ∙ ap (λ (n : ℕ). step * k + n) (mul-one step) in
+    let e : at + step * k + step ≡ at + step * (k + 1) = omega arith in
+    rw (drop-drop, e)
 
 number-next : {A B : Type 0} (a : Answer A) (f : A → B) → number (next a (λ x. taken (f x))) ≡ number a
 number-next (refused c) f = refl
@@ -65,9 +69,8 @@ number-next (taken x) f = refl
 
 -- The number of checks 8 and 9 on all sizes at `at` is that of the `count - i` sizes from size i on, after the size before.
 pub record Checked (rules : Rules) (s : List ℕ) (at count : ℕ) (y : Item) (i : ℕ) : Type 0 where
-  pub some : 1 ≤ i
   pub inside : i ≤ count
-  pub same : number (sizesAfter rules y (count - i) (drop (at + 4 * i) s)) ≡ number (sizesFrom rules count (drop at s))
+  pub same : number (sizesAfter rules y (count - i) (drop (at + rules .step * i) s)) ≡ number (sizesFrom rules count (drop at s))
 
 -- One size's two questions, answered by l and o, before what follows them: they stop with n, or pass.
 module _ {A : Type 0} where
@@ -97,39 +100,41 @@ size-passes true false h k = absurd (let z : _≡_ {A = ℕ} 0 1 = cc in omega a
 size-passes false o h k = absurd (let z : _≡_ {A = ℕ} 0 1 = cc in omega arith)
 
 -- The first size z, whose test is l.
-pub first-stops : (rules : Rules) (s : List ℕ) (at count : ℕ) (z : Item) (l : Bool) (n : ℕ) → 1 ≤ count → z ≡ sizeAt (drop at s) → l ≡ limited z → n ≡ sizeNumber l true → (n ≡ 0 → ⊥) → n ≡ number (sizesFrom rules count (drop at s))
+pub first-stops : (rules : Rules) (s : List ℕ) (at count : ℕ) (z : Item) (l : Bool) (n : ℕ) → 1 ≤ count → z ≡ rules .sizeOf (drop at s) → l ≡ limited z → n ≡ sizeNumber l true → (n ≡ 0 → ⊥) → n ≡ number (sizesFrom rules count (drop at s))
 unfolding sizesFrom
 first-stops rules s at zero z l n some here limits e h = absurd (omega arith)
 first-stops rules s at (suc k) z l n some here limits e h =
-    let same : l ≡ limited (sizeAt (drop at s)) = limits ∙ ap limited here in
-    stop (limited (sizeAt (drop at s))) true _ n (e ∙ ap (λ (b : Bool). sizeNumber b true) same) h
+    let same : l ≡ limited (rules .sizeOf (drop at s)) = limits ∙ ap limited here in
+    stop (limited (rules .sizeOf (drop at s))) true _ n (e ∙ ap (λ (b : Bool). sizeNumber b true) same) h
 
-pub first-checked : (rules : Rules) (s : List ℕ) (at count : ℕ) (z : Item) (l : Bool) (n : ℕ) → 1 ≤ count → z ≡ sizeAt (drop at s) → l ≡ limited z → n ≡ sizeNumber l true → n ≡ 0 → Checked rules s at count z 1
+pub first-checked : (rules : Rules) (s : List ℕ) (at count : ℕ) (z : Item) (l : Bool) (n : ℕ) → 1 ≤ count → z ≡ rules .sizeOf (drop at s) → l ≡ limited z → n ≡ sizeNumber l true → n ≡ 0 → Checked rules s at count z 1
 unfolding sizesFrom
 first-checked rules s at zero z l n some here limits e h = absurd (omega arith)
 first-checked rules s at (suc k) z l n some here limits e h =
-    let same : l ≡ limited (sizeAt (drop at s)) = limits ∙ ap limited here in
+    let same : l ≡ limited (rules .sizeOf (drop at s)) = limits ∙ ap limited here in
     let less : suc k - 1 ≡ k = omega arith in
-    let next-place : at + 4 * 1 ≡ at + 4 = omega arith in
-    let rest = sizesAfter rules (sizeAt (drop at s)) k (drop 4 (drop at s)) in
+    let next-place : at + rules .step * 1 ≡ at + rules .step = ap (λ (k : ℕ). at + k) (mul-one (rules .step)) in
+    let rest = sizesAfter rules (rules .sizeOf (drop at s)) k (drop (rules .step) (drop at s)) in
     record {
-      some = omega arith;
       inside = omega arith;
       same =
-          rw (less, next-place, here, ← drop-drop 4 at s)
-          (sym (number-next rest (λ zs. sizeAt (drop at s) ∷ zs))
-          ∙ sym (pass (limited (sizeAt (drop at s))) true _ (sym h ∙ e ∙ ap (λ (b : Bool). sizeNumber b true) same)));
+          rw (less, next-place, here, ← drop-drop (rules .step) at s)
+          (sym (number-next rest (λ zs. rules .sizeOf (drop at s) ∷ zs))
+          ∙ sym (pass (limited (rules .sizeOf (drop at s))) true _ (sym h ∙ e ∙ ap (λ (b : Bool). sizeNumber b true) same)));
     }
 
 -- A later size z, after the size y, and its tests l and o.
-module _ (rules : Rules) (s : List ℕ) (at count i : ℕ) (y z : Item) (l o : Bool) (n : ℕ) (known : Checked rules s at count y i) (more : i < count) (here : z ≡ sizeAt (drop (at + 4 * i) s)) (limits : l ≡ limited z) (order : o ≡ inOrder rules y z) (e : n ≡ sizeNumber l o) where
+module _ (rules : Rules) (s : List ℕ) (at count i : ℕ) (y z : Item) (l o : Bool) (n : ℕ) (known : Checked rules s at count y i) (more : i < count) (here : z ≡ rules .sizeOf (drop (at + rules .step * i) s)) (limits : l ≡ limited z) (order : o ≡ inOrder rules y z) (e : n ≡ sizeNumber l o) where
   abbrev bytes : List ℕ
-  bytes = drop (at + 4 * i) s
+  bytes = drop (at + rules .step * i) s
 
-  tests : n ≡ sizeNumber (limited (sizeAt bytes)) (inOrder rules y (sizeAt bytes))
+  abbrev present : Item
+  present = rules .sizeOf bytes
+
+  tests : n ≡ sizeNumber (limited present) (inOrder rules y present)
   tests =
       e ∙ ap (λ (b : Bool). sizeNumber b o) (limits ∙ ap limited here)
-      ∙ ap (λ (b : Bool). sizeNumber (limited (sizeAt bytes)) b) (order ∙ ap (inOrder rules y) here)
+      ∙ ap (λ (b : Bool). sizeNumber (limited present) b) (order ∙ ap (inOrder rules y) here)
 
   same : number (sizesAfter rules y (suc (count - (i + 1))) bytes) ≡ number (sizesFrom rules count (drop at s))
   same =
@@ -138,18 +143,17 @@ module _ (rules : Rules) (s : List ℕ) (at count i : ℕ) (y z : Item) (l o : B
 
   pub later-stops : (n ≡ 0 → ⊥) → n ≡ number (sizesFrom rules count (drop at s))
   unfolding sizesAfter
-  later-stops h = stop (limited (sizeAt bytes)) (inOrder rules y (sizeAt bytes)) _ n tests h ∙ same
+  later-stops h = stop (limited present) (inOrder rules y present) _ n tests h ∙ same
 
   pub later-checked : n ≡ 0 → Checked rules s at count z (i + 1)
   unfolding sizesAfter
   later-checked h =
       record {
-        some = omega arith;
         inside = omega arith;
         same =
-            rw (here, ← size-below s at i)
-            (sym (number-next (sizesAfter rules (sizeAt bytes) (count - (i + 1)) (drop 4 bytes)) (λ zs. sizeAt bytes ∷ zs))
-            ∙ sym (pass (limited (sizeAt bytes)) (inOrder rules y (sizeAt bytes)) _ (sym h ∙ tests))
+            rw (here, ← size-below (rules .step) s at i)
+            (sym (number-next (sizesAfter rules present (count - (i + 1)) (drop (rules .step) bytes)) (λ zs. present ∷ zs))
+            ∙ sym (pass (limited present) (inOrder rules y present) _ (sym h ∙ tests))
             ∙ same);
       }
 
@@ -157,4 +161,4 @@ pub all-checked : (rules : Rules) (s : List ℕ) (at count : ℕ) (y : Item) (i 
 unfolding sizesAfter
 all-checked rules s at count y i known h =
     let none : count - i ≡ 0 = omega arith in
-    subst (λ (n : ℕ). number (sizesAfter rules y n (drop (at + 4 * i) s)) ≡ number (sizesFrom rules count (drop at s))) none (known .same)
+    subst (λ (n : ℕ). number (sizesAfter rules y n (drop (at + rules .step * i) s)) ≡ number (sizesFrom rules count (drop at s))) none (known .same)

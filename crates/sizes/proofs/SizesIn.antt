@@ -10,29 +10,28 @@ use Rattle.checks.specs.Check.{Limits, Order}
 use Rattle.checks.specs.Answer.{taken}
 use Rattle.checks.proofs.Answers.{same-taken, ask-taken, next-taken}
 use Rattle.slicing.specs.Item.{Item, size}
-use Rattle.sizes.specs.Rules.{Rules}
-use Rattle.sizes.specs.GaugeSizes.{sizeAt, limited, inOrder, sizesAfter, sizesFrom}
+use Rattle.sizes.specs.GaugeSizes.{sizeAt, versionRules, limited, inOrder, sizesAfter, sizesFrom}
 use Rattle.sizes.specs.inside.Sizes.{sizesIn, SizeIn}
 use Rattle.sizes.specs.declared.Size.{Size}
 
-after-in : (rules : Rules) (y : Item) (k : ℕ) (bytes : List ℕ) (z : List Item) → sizesAfter rules y k bytes ≡ taken z → z ≡ sizesIn k bytes
+after-in : (v : ℕ) (y : Item) (k : ℕ) (bytes : List ℕ) (z : List Item) → sizesAfter (versionRules v) y k bytes ≡ taken z → z ≡ sizesIn k bytes
 unfolding sizesAfter sizesIn
-after-in rules y zero bytes z e = sym (same-taken [] z e)
-after-in rules y (suc k) bytes z e =
+after-in v y zero bytes z e = sym (same-taken [] z e)
+after-in v y (suc k) bytes z e =
     let limits = ask-taken (limited (sizeAt bytes)) Limits _ z e in
-    let order = ask-taken (inOrder rules y (sizeAt bytes)) Order _ z (limits .1) in
-    let rest = next-taken (sizesAfter rules (sizeAt bytes) k (drop 4 bytes)) (λ zs. taken (sizeAt bytes ∷ zs)) z (order .1) in
+    let order = ask-taken (inOrder (versionRules v) y (sizeAt bytes)) Order _ z (limits .1) in
+    let rest = next-taken (sizesAfter (versionRules v) (sizeAt bytes) k (drop 4 bytes)) (λ zs. taken (sizeAt bytes ∷ zs)) z (order .1) in
     sym (same-taken (sizeAt bytes ∷ rest .0) z (rest .2))
-    ∙ ap (λ (l : List Item). sizeAt bytes ∷ l) (after-in rules (sizeAt bytes) k (drop 4 bytes) (rest .0) (rest .1))
+    ∙ ap (λ (l : List Item). sizeAt bytes ∷ l) (after-in v (sizeAt bytes) k (drop 4 bytes) (rest .0) (rest .1))
 
-pub from-in : (rules : Rules) (k : ℕ) (bytes : List ℕ) (z : List Item) → sizesFrom rules k bytes ≡ taken z → z ≡ sizesIn k bytes
+pub from-in : (v k : ℕ) (bytes : List ℕ) (z : List Item) → sizesFrom (versionRules v) k bytes ≡ taken z → z ≡ sizesIn k bytes
 unfolding sizesFrom sizesIn
-from-in rules zero bytes z e = sym (same-taken [] z e)
-from-in rules (suc k) bytes z e =
+from-in v zero bytes z e = sym (same-taken [] z e)
+from-in v (suc k) bytes z e =
     let limits = ask-taken (limited (sizeAt bytes)) Limits _ z e in
-    let rest = next-taken (sizesAfter rules (sizeAt bytes) k (drop 4 bytes)) (λ zs. taken (sizeAt bytes ∷ zs)) z (limits .1) in
+    let rest = next-taken (sizesAfter (versionRules v) (sizeAt bytes) k (drop 4 bytes)) (λ zs. taken (sizeAt bytes ∷ zs)) z (limits .1) in
     sym (same-taken (sizeAt bytes ∷ rest .0) z (rest .2))
-    ∙ ap (λ (l : List Item). sizeAt bytes ∷ l) (after-in rules (sizeAt bytes) k (drop 4 bytes) (rest .0) (rest .1))
+    ∙ ap (λ (l : List Item). sizeAt bytes ∷ l) (after-in v (sizeAt bytes) k (drop 4 bytes) (rest .0) (rest .1))
 
 pub in-same : (k : ℕ) (x y : List ℕ) → ((i : ℕ) → i < 4 * k → getD x i 0 ≡ getD y i 0) → sizesIn k x ≡ sizesIn k y
 unfolding sizesIn

@@ -1,4 +1,4 @@
--- Document 01, "The face file" and "The checks, as questions": the sizes of a gauge, taken in turn, or the first of checks 8 and 9 that they fail. Document 02, Paper 1, has files whose sizes are not asked for their order.
+-- Document 01, "The face file" and "The checks, as questions": the sizes of a gauge, taken in turn, or the first of checks 8 and 9 that they fail. Document 02 has files whose sizes are not asked for their order (Paper 1), and sizes in words (Paper 3).
 use mathlib.Core.Bool.{Bool, true, cond, _&&_}
 use mathlib.Core.List.{List, [], _∷_}
 use Prim.Native.Nat.{ℕ, zero, suc, _+_, _*_}
@@ -20,6 +20,10 @@ within low high x = leb low x && leb x high
 abbrev pub sizeAt : List ℕ → Item
 sizeAt bytes = size (field bytes 0) (field bytes 2)
 
+-- The rules of a file of some version: four bytes a size.
+abbrev pub versionRules : ℕ → Rules
+versionRules v = record { version = v; step = 4; sizeOf = sizeAt }
+
 -- Height and width both 1 to 1,000?
 abbrev pub limited : Item → Bool
 limited z = within 1 1_000 (height z) && within 1 1_000 (width z)
@@ -36,13 +40,13 @@ inOrder rules y z = cond (asksOrder rules) (ordered y z) true
 unfoldable pub sizesAfter : Rules → Item → ℕ → List ℕ → Answer (List Item)
 sizesAfter rules y zero bytes = taken []
 sizesAfter rules y (suc k) bytes =
-    ask (limited (sizeAt bytes)) Limits
-    (ask (inOrder rules y (sizeAt bytes)) Order
-    (next (sizesAfter rules (sizeAt bytes) k (drop 4 bytes)) (λ zs. taken (sizeAt bytes ∷ zs))))
+    ask (limited (rules .sizeOf bytes)) Limits
+    (ask (inOrder rules y (rules .sizeOf bytes)) Order
+    (next (sizesAfter rules (rules .sizeOf bytes) k (drop (rules .step) bytes)) (λ zs. taken (rules .sizeOf bytes ∷ zs))))
 
 -- The first size has none before it.
 unfoldable pub sizesFrom : Rules → ℕ → List ℕ → Answer (List Item)
 sizesFrom rules zero bytes = taken []
 sizesFrom rules (suc k) bytes =
-    ask (limited (sizeAt bytes)) Limits
-    (next (sizesAfter rules (sizeAt bytes) k (drop 4 bytes)) (λ zs. taken (sizeAt bytes ∷ zs)))
+    ask (limited (rules .sizeOf bytes)) Limits
+    (next (sizesAfter rules (rules .sizeOf bytes) k (drop (rules .step) bytes)) (λ zs. taken (rules .sizeOf bytes ∷ zs)))

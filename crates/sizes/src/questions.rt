@@ -4,15 +4,14 @@ ghost use Prim.Native.Nat.{_+_, _*_, _≤_};
 ghost use lib.ListN.{length, drop};
 ghost use Rattle.checks.specs.Answer.{number};
 ghost use Rattle.slicing.specs.Item.{size};
-ghost use Rattle.sizes.specs.Rules.{versionRules};
-ghost use Rattle.sizes.specs.GaugeSizes.{limited, ordered, inOrder, sizesFrom};
+ghost use Rattle.sizes.specs.GaugeSizes.{limited, ordered, inOrder, versionRules, sizesFrom};
 ghost use Rattle.sizes.specs.inside.Sizes.{sizeNumber};
 use crate::Size;
 use crate::field::is_within;
 use crate::field::size_at;
 
 // Whether height and width both are 1 to 1,000.
-fn is_limited(z: Size) -> bool
+pub fn is_limited(z: Size) -> bool
     ensures { λ r. ⌜ r ≡ limited (size (z .height) (z .width)) ⌝ }
 {
     is_within(1, 1000, z.height) && is_within(1, 1000, z.width)

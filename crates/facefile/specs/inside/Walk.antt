@@ -49,8 +49,8 @@ pub record GaugeAt (file : List ℕ) (face : Tree) (at : ℕ) (stack : List Tree
   pub further : at < g .next
   pub walk : Walk file face (g .next) (gauge (sizesIn (g .count) (sizeBytesOf file g)) ∷ stack)
 
--- A join of the two newest parts stands at the place, and the walk goes on behind it with the join in their place.
-pub record JoinAt (file : List ℕ) (face : Tree) (at : ℕ) (stack : List Tree) (kind behind : ℕ) : Type 0 where
+-- A join of the two newest parts stands at the place of a walk by W, over bytes or over words, and the walk goes on behind it with the join in their place.
+pub record JoinBy (W : ℕ → List Tree → Type 0) (at : ℕ) (stack : List Tree) (kind behind : ℕ) : Type 0 where
   pub cut : Tree → Tree → Tree
   pub older : Tree
   pub newer : Tree
@@ -58,7 +58,10 @@ pub record JoinAt (file : List ℕ) (face : Tree) (at : ℕ) (stack : List Tree)
   pub is-cut : Cut kind cut
   pub two : stack ≡ newer ∷ older ∷ rest
   pub further : at < behind
-  pub walk : Walk file face behind (cut older newer ∷ rest)
+  pub walk : W behind (cut older newer ∷ rest)
+
+abbrev pub JoinAt : List ℕ → Tree → ℕ → List Tree → ℕ → ℕ → Type 0
+JoinAt file face at stack kind behind = JoinBy (Walk file face) at stack kind behind
 
 abbrev pub EntryAt : List ℕ → Tree → ℕ → List Tree → Entry → Type 0
 EntryAt file face at stack (Gauge g) = GaugeAt file face at stack g

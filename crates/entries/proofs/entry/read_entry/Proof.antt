@@ -21,16 +21,16 @@ returns-2 : tie.Need-returns-2
 returns-2 c = search (needs, entry-gauge)
 
 read-join-requires : tie.Need-read-join-requires
-read-join-requires c κs = search (needs, fair-next)
+read-join-requires c κs = search needs
 
 returns-3 : tie.Need-returns-3
-returns-3 c = search (needs, entry-beside)
+returns-3 c = search (needs, entry-beside, fair-next, c .read-join .ensures .0)
 
 read-join-requires-2 : tie.Need-read-join-requires-2
-read-join-requires-2 c κs = search (needs, fair-next)
+read-join-requires-2 c κs = search needs
 
 returns-4 : tie.Need-returns-4
-returns-4 c = search (needs, entry-stacked)
+returns-4 c = search (needs, entry-stacked, fair-next, c .read-join2 .ensures .1)
 
 returns-5 : tie.Need-returns-5
 returns-5 c = search (needs, entry-unknown)

@@ -7,15 +7,16 @@ use Rattle.entries.proofs.entry.read_join.Statement.{statement}
 use Rattle.entries.proofs.entry.read_join.Tie as tie
 
 returns : tie.Need-returns
-returns c = (join-lacks _ _ _ (search needs), join-lacks _ _ _ (search needs))
+returns c = (λ l fair. join-lacks l _ _ (search needs), λ l fair. join-lacks l _ _ (search needs))
 
-sub-t4 : tie.Need-sub-t4
-sub-t4 c = search needs
+sub-t3 : tie.Need-sub-t3
+sub-t3 c = search needs
 
 returns-2 : tie.Need-returns-2
-returns-2 c =
-    let fair = c .before .before .before .pre in
-    (join-taken _ _ _ 0x02 cut-beside fair (search needs), join-taken _ _ _ 0x03 cut-stacked fair (search needs))
+returns-2 c = (
+  λ l fair. join-taken l _ _ 0x02 cut-beside fair (search needs),
+  λ l fair. join-taken l _ _ 0x03 cut-stacked fair (search needs),
+)
 
 pub read-join-spec : {M : Type 1} → statement M
-read-join-spec = tie.close (tie.spec returns sub-t4 returns-2)
+read-join-spec = tie.close (tie.spec returns sub-t3 returns-2)

@@ -1,6 +1,6 @@
 -- `facefile::reader::read` meets its contract.
 -- For each way out a law of `Reading` takes what the parts of the file answered.
-use Rattle.facefile.proofs.Reading.{header-long, read-header, read-stop, read-fair, read-next}
+use Rattle.facefile.proofs.Reading.{header-long, read-header, headed, read-stop, read-fair, read-next}
 use native.Mathlib.Omega.{arith}
 use borrow.Author.Needs.{needs}
 use Rattle.facefile.proofs.reader.read.Statement.{statement}
@@ -38,13 +38,13 @@ enum-known-c : tie.Need-enum-known-c
 enum-known-c c = search needs
 
 read-end-requires : tie.Need-read-end-requires
-read-end-requires c κs = search (needs, read-fair)
+read-end-requires c κs = search needs
 
 returns-2 : tie.Need-returns-2
-returns-2 c = search (needs, read-stop)
+returns-2 c = search (needs, headed, read-stop)
 
 returns-3 : tie.Need-returns-3
-returns-3 c = search (needs, read-next)
+returns-3 c = search (needs, headed, read-next, read-fair, c .read-end .ensures)
 
 pub read-spec : {M : Type 1} → statement M
 read-spec =

@@ -2,13 +2,14 @@
 -- The loop keeps `Reading`, a state that the cursor stands for and from which the entries left give what all give; the measure is the entries left.
 use borrow.Author.Needs.{needs}
 use Prim.Native.Nat.{_-_}
-use Rattle.sizes.specs.Rules.{versionRules}
+use Rattle.sizes.specs.GaugeSizes.{versionRules}
+use Rattle.facefile.specs.Format.{start}
 use Rattle.facefile.proofs.Reading.{Reading, reading-start, reading-stop, reading-next, reading-done}
 use Rattle.facefile.proofs.reader.read_entries.Statement.{statement}
 use Rattle.facefile.proofs.reader.read_entries.Tie as tie
 
 abbrev Inv-loop : tie.InvT-loop
-Inv-loop file version count c₀ i₀ c i = Reading (versionRules version) file count c i
+Inv-loop file version count c₀ i₀ c i = Reading (versionRules version) file (start file) count c i
 
 abbrev μ-loop : tie.MeasureT-loop
 μ-loop file version count c₀ i₀ c i = count - i

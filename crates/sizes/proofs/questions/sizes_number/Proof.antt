@@ -3,7 +3,7 @@
 use borrow.Author.Needs.{needs}
 use Prim.Native.Nat.{_-_}
 use Rattle.slicing.specs.Item.{size}
-use Rattle.sizes.specs.Rules.{versionRules}
+use Rattle.sizes.specs.GaugeSizes.{versionRules}
 use Rattle.sizes.proofs.SizeChecks.{Checked, first-stops, first-checked, later-stops, later-checked, all-checked}
 use Rattle.sizes.proofs.questions.sizes_number.Statement.{statement}
 use Rattle.sizes.proofs.questions.sizes_number.Tie as tie
