@@ -1,0 +1,2 @@
+pub mod EntriesOf
+pub mod FileOf
