@@ -5,7 +5,7 @@ use mathlib.Core.Bool.{Bool, true, false, _&&_}
 use mathlib.Core.List.{List, [], _∷_, _++_}
 use Prim.Native.Nat.{ℕ, zero, suc, _+_, _*_}
 use lib.Dec.{ltb, eqb}
-use lib.ListN.{replicate, take}
+use lib.ListN.{replicate, take, drop}
 use Rattle.checks.specs.Limits.{bufferWords}
 use Rattle.checks.specs.Answer.{number, outcome}
 use Rattle.slicing.specs.Item.{Item, size}
@@ -31,6 +31,9 @@ use Rattle.placing.specs.declared.Fitted.{Fitted}
 use Rattle.placing.specs.Found.{noFace}
 use Rattle.shapes.specs.Listing.{listAsks}
 use Rattle.fit.specs.Fitting.{fitAsks, fitted, fitOutput}
+use Rattle.written.specs.FileOf.{fileOf}
+use Rattle.facewords.specs.Words.{firstWord, wordsFace, wordsOf}
+use Rattle.saving.specs.Saving.{saveCall, savedOutput, wordCall, wordOutput}
 
 pub data Row : Type 0 where
   -- The outer sizes of a file's face, with a rib.
@@ -39,6 +42,10 @@ pub data Row : Type 0 where
   fits : List ℕ → ℕ → Outline → Fitted → List ℕ → Row
   -- A rib and an opening: the numbers of the list call's and of the fit call's questions.
   asks : ℕ → Outline → ℕ → ℕ → Row
+  -- Words, and how many bytes are lent to write their file into: the writing call's number, and its output.
+  saves : List ℕ → ℕ → ℕ → List ℕ → Row
+  -- A file, and how many words are lent to read it into: the reading call's number, and its output.
+  words : List ℕ → ℕ → ℕ → List ℕ → Row
   -- A file of a lopsided tree of n sizes, and its top level.
   tops : List ℕ → ℕ → ℕ → Row
   -- A size number and its uncut level.
@@ -79,6 +86,10 @@ readHolds p r = eqb (r .number) 0 && eqb (r .m) 60 && eqb (r .p) p
 abbrev ones : List ℕ
 ones = replicate 4 1
 
+-- An output of so many bytes or words, before a call.
+abbrev lentRoom : ℕ → List ℕ
+lentRoom n = replicate n 7
+
 abbrev pub holds : Row → Bool
 holds (lists file rib items) = outcome (faceOf file) false (λ t. same (listWords (shapes rib t)) (listWords items))
 holds (fits file rib o answer output) =
@@ -86,6 +97,12 @@ holds (fits file rib o answer output) =
 holds (asks rib o listed fit) =
     eqb (number (listAsks 4 2 ones rib bufferWords bufferWords 6)) listed
     && eqb (number (fitAsks 4 2 ones rib o bufferWords bufferWords 10)) fit
+holds (saves given room n output) =
+    eqb (number (saveCall (wordsFace given) (lentRoom room))) n
+    && same (savedOutput (saveCall (wordsFace given) (lentRoom room)) (lentRoom room)) output
+holds (words file room n output) =
+    eqb (number (wordCall (faceOf file) (lentRoom room))) n
+    && same (wordOutput (wordCall (faceOf file) (lentRoom room)) (lentRoom room)) output
 holds (tops file n level) = outcome (faceOf file) false (topHolds n level)
 holds (uncuts r level) = eqb (uncutLevel r) level
 holds (reads p adjust true-p) = readHolds true-p (reading (readItem (under p adjust) 1))
@@ -157,6 +174,34 @@ largestGauges (suc k) = largestGauge ++ (0x02 ∷ largestGauges k)
 abbrev largestRow : List ℕ
 largestRow = 0x46 ∷ 0x43 ∷ 0x45 ∷ 0x00 ∷ 0x01 ∷ 0x00 ∷ 0x7F ∷ (largestGauge ++ largestGauges 63)
 
+-- A file of version 1, in version 2.
+abbrev newer : List ℕ → List ℕ
+newer file = take 4 file ++ (0x02 ∷ drop 5 file)
+
+-- Paper 3, the words of document 01's file.
+abbrev exampleWords : List ℕ
+exampleWords = 3 ∷ 1 ∷ 2 ∷ 60 ∷ 40 ∷ 40 ∷ 60 ∷ 1 ∷ 2 ∷ 50 ∷ 30 ∷ 30 ∷ 50 ∷ 2 ∷ []
+
+-- The words of a lopsided file, made as its bytes are.
+abbrev wordsDown : ℕ → ℕ → List ℕ
+wordsDown zero w = []
+wordsDown (suc h) w = suc h ∷ w ∷ wordsDown h (suc w)
+
+abbrev gaugeInWords : ℕ → List ℕ
+gaugeInWords n = 1 ∷ n ∷ wordsDown n 1
+
+abbrev eightsInWords : ℕ → List ℕ
+eightsInWords zero = []
+eightsInWords (suc k) = gaugeInWords 8 ++ (2 ∷ eightsInWords k)
+
+abbrev lopsidedWords : ℕ → ℕ → List ℕ
+lopsidedWords first k = (1 + 2 * k) ∷ (gaugeInWords first ++ eightsInWords k)
+
+-- So many gauges of 1 by 1, and no join.
+abbrev ungrouped : ℕ → List ℕ
+ungrouped zero = []
+ungrouped (suc k) = 1 ∷ 1 ∷ 1 ∷ 1 ∷ ungrouped k
+
 abbrev face : ℕ → ℕ → ℕ → ℕ → Fitted
 face h w area count = record { number = 0; height = h; width = w; area = area; count = count }
 
@@ -190,6 +235,29 @@ rows =
     ∷ asks 20 (outline 65_261 65_260) 0 16
     ∷ asks 20 (outline 65_260 65_261) 0 16
     ∷ asks 21 (outline 65_261 65_260) 22 22
+    ∷ saves exampleWords 28 0 (newer example)
+    ∷ saves exampleWords 30 0 (newer example ++ (7 ∷ 7 ∷ []))
+    ∷ saves exampleWords 27 18 (lentRoom 27)
+    ∷ saves (lopsidedWords 8 63) 2_246 0 (newer (lopsided 8 63))
+    ∷ saves (lopsidedWords 8 63) 2_245 18 (lentRoom 2_245)
+    ∷ saves [] 9 5 (lentRoom 9)
+    ∷ saves (0 ∷ []) 9 4 (lentRoom 9)
+    ∷ saves (128 ∷ []) 9 4 (lentRoom 9)
+    ∷ saves (1 ∷ []) 9 5 (lentRoom 9)
+    ∷ saves (1 ∷ 257 ∷ 1 ∷ 30 ∷ 50 ∷ []) 13 6 (lentRoom 13)
+    ∷ saves (127 ∷ ungrouped 65) 9 10 (lentRoom 9)
+    ∷ saves (1 ∷ 1 ∷ []) 9 5 (lentRoom 9)
+    ∷ saves (1 ∷ 1 ∷ 257 ∷ 30 ∷ 50 ∷ []) 13 7 (lentRoom 13)
+    ∷ saves (1 ∷ 1 ∷ 2 ∷ 0 ∷ 0 ∷ 0 ∷ []) 9 5 (lentRoom 9)
+    ∷ saves (1 ∷ 1 ∷ 1 ∷ 65_537 ∷ 50 ∷ []) 13 8 (lentRoom 13)
+    ∷ saves (1 ∷ 2 ∷ []) 9 11 (lentRoom 9)
+    ∷ saves (2 ∷ ungrouped 2 ++ (0 ∷ [])) 9 12 (lentRoom 9)
+    ∷ saves (1 ∷ ungrouped 1 ++ (0 ∷ [])) 9 13 (lentRoom 9)
+    ∷ words example 14 0 exampleWords
+    ∷ words (newer example) 16 0 (exampleWords ++ (7 ∷ 7 ∷ []))
+    ∷ words example 13 18 (lentRoom 13)
+    ∷ words (lopsided 8 63) 1_216 0 (lopsidedWords 8 63)
+    ∷ words (lopsided 8 63) 1_215 18 (lentRoom 1_215)
     ∷ tops (lopsided 7 15) 127 1
     ∷ tops (lopsided 8 15) 128 2
     ∷ tops (lopsided 7 63) 511 2
@@ -200,5 +268,5 @@ rows =
     ∷ []
 
 pub rows-hold : all holds rows ≡ true
-unfolding levelCount levelRange levelsLent ribGiven openingGiven buffersLent outputLent listAsks fitAsks header sizesAfter sizesFrom gaugeSizes gaugeEntry joinParts joinEntry kindEntry entry entries onePart atEnd faceOf merge turn gaugeShapes shapes smallest noTaller indexOf place listWords writtenOver timesFour uncutLevel largestPower topLevel word nextWith lastWith sumFrom trueP held walk linksRight linked falling lazyList readItem
+unfolding saveCall wordCall firstWord wordsFace wordsOf fileOf levelCount levelRange levelsLent ribGiven openingGiven buffersLent outputLent listAsks fitAsks header sizesAfter sizesFrom gaugeSizes gaugeEntry joinParts joinEntry kindEntry entry entries onePart atEnd faceOf merge turn gaugeShapes shapes smallest noTaller indexOf place listWords writtenOver timesFour uncutLevel largestPower topLevel word nextWith lastWith sumFrom trueP held walk linksRight linked falling lazyList readItem
 rows-hold = refl
