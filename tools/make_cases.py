@@ -8,8 +8,9 @@ with its name; of crates/faces and crates/faces_long some faces.
 tools/making/ has the files: for the reader and the levels (face_files.py), the list call (list_files.py), the fit call
 (fit_files.py), the text of `faces` (text_files.py), all of these in version 2 (printed_files.py), and the list and fit calls
 with ribs (rib_files.py); the calls that are made on each file (calls.py, with ribs rib_calls.py); the arenas of the reading
-call (arenas.py); pseudo-random cases (random_cases.py); and what `faces` is run on (faces_inputs.py). What is expected comes
-from the models. It stops where they and an answer that was worked out by hand differ.
+call (arenas.py); the words of the writing call (word_files.py), with the calls between words and files (word_calls.py);
+pseudo-random cases (random_cases.py); and what `faces` is run on (faces_inputs.py). What is expected comes from the models.
+It stops where they and an answer that was worked out by hand differ.
 """
 
 import collections
@@ -19,13 +20,13 @@ import sys
 sys.dont_write_bytecode = True
 
 from making import arenas, calls, face_files, faces_inputs, fit_files, list_files, printed_files, random_cases
-from making import rib_calls, rib_files, text_files
+from making import rib_calls, rib_files, text_files, word_calls, word_files
 
 CRATES = pathlib.Path(__file__).resolve().parent.parent / "crates"
 SETS = [face_files, list_files, fit_files, text_files, printed_files, rib_files]
 
 # How many pseudo-random cases are stored, and where their row starts.
-RANDOM = 300
+RANDOM = 270
 SEED = 7
 
 # The most bytes of output that `rt try` takes, which tools/try_edits.py runs.
@@ -33,7 +34,7 @@ MOST = 1_048_576
 
 
 def faults():
-    return [fault for module in SETS + [arenas] for fault in module.faults()]
+    return [fault for module in SETS + [arenas, word_files] for fault in module.faults()]
 
 
 def names():
@@ -54,7 +55,7 @@ def file_cases():
     refused = {stored.file for module in SETS for stored in module.FILES if stored.number != 0}
     found = []
     for file, name in names().items():
-        found += calls.reader_calls(name, file)
+        found += calls.reader_calls(name, file) + word_calls.file_calls(name, file)
         if file in refused:
             found += calls.refused_calls(name, file)
             continue
@@ -71,7 +72,7 @@ def file_cases():
 
 
 def all_cases():
-    return file_cases() + arenas.cases() + random_cases.stored(RANDOM, SEED)
+    return file_cases() + arenas.cases() + word_calls.cases() + random_cases.stored(RANDOM, SEED)
 
 
 def stop_at(faults):

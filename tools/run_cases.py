@@ -2,6 +2,7 @@
 """Runs pseudo-random cases of every call through target/bin/cases, and compares all that it prints with document 01.
 
     python3 tools/run_cases.py --cases 5000 --seed 1    runs them, and exits 1 if any answer differs
+    python3 tools/run_cases.py --cases 5000 --call save    the same of one call alone
 
 A case is a file, which the reader answers, and a call on it. tools/making/random_cases.py makes them, and what is expected
 comes from the models. Some cases read an arena that the list call left, with words replaced; which words a list call
@@ -26,6 +27,13 @@ def kinds(cases):
     return ", ".join(f"{kind}: {found[kind]}" for kind in sorted(found))
 
 
+def run(program, cases, count):
+    print(kinds(cases))
+    wrong = running.different(cases, running.run(program, cases))
+    print(f"{count} cases ran, {wrong} differ")
+    return wrong
+
+
 def arenas(rng, program, count):
     """So many arenas that the list call leaves, and how many are not as they should be."""
     bases = random_arenas.lefts(rng, count)
@@ -34,6 +42,12 @@ def arenas(rng, program, count):
     wrong = sum(not left.take(answer) for left, answer in zip(bases, answers[1::2]))
     print(f"{len(bases)} arenas of the list call, {wrong} not as document 01 fixes them")
     return bases, wrong
+
+
+def run_call(program, count, seed, call):
+    """Cases of one call."""
+    rng = random.Random(seed)
+    return run(program, [case for i in range(count) for case in random_cases.made(rng, str(i), call)], count)
 
 
 def run_all(program, count, seed):
@@ -46,18 +60,18 @@ def run_all(program, count, seed):
     for i in range(count):
         read = i < share
         cases += random_arenas.scrambled(rng, str(i), rng.choice(bases)) if read else random_cases.made(rng, str(i))
-    print(kinds(cases))
-    wrong = running.different(cases, running.run(program, cases))
-    print(f"{count} cases ran, {wrong} differ")
-    return wrong
+    return run(program, cases, count)
 
 
 def main():
     parser = argparse.ArgumentParser()
     parser.add_argument("--cases", type=int, default=5000)
     parser.add_argument("--seed", type=int, default=1)
+    parser.add_argument("--call", choices=list(random_cases.MAKERS))
     parser.add_argument("--program", default=str(running.PROGRAM))
     given = parser.parse_args()
+    if given.call:
+        sys.exit(1 if run_call(given.program, given.cases, given.seed, given.call) else 0)
     sys.exit(1 if run_all(given.program, given.cases, given.seed) else 0)
 
 

@@ -4,7 +4,7 @@ form of both."""
 import dataclasses
 import itertools
 
-from models import face_model, fit_model, list_model, read_model, text_model
+from models import face_model, fit_model, list_model, read_model, text_model, words_model
 
 # The rooms that the program has for a case, an arena or a scratch, an output and a text; and the least of a text that the
 # call takes.
@@ -13,6 +13,10 @@ LONGER = list_model.WORDS + 16
 OUTPUT = 904
 TEXT = 13_700
 TEXT_LEAST = 13_645
+
+# Room for every face as words, and as a file.
+FACE_WORDS = 1_216
+FACE_BYTES = 2_246
 
 # What a buffer of levels holds before the levels call.
 BLANK = 170
@@ -142,6 +146,46 @@ def text_case(name, file, room):
     """The text of `faces`, in a buffer of so many bytes."""
     text = text_model.text_of(file) if room >= TEXT_LEAST else ""
     return Case(name, given("t", b"", 0, 0, 0, 0, room), "text\n" + text + "rest kept\n")
+
+
+def word_bytes(words):
+    """Words as the file of a case: four bytes each, the high byte first."""
+    return b"".join(word.to_bytes(4, "big") for word in words)
+
+
+def differences(given_row, found):
+    """How many places of a row another row has not the same at."""
+    return sum(place >= len(found) or found[place] != one for place, one in enumerate(given_row))
+
+
+def saved_case(name, words, room):
+    """The writing call on words, in a buffer of so many bytes. The case before has their bytes as its file."""
+    number, length, file = words_model.write_file(words, room)
+    answer = f"saved {number} {length}"
+    if number == 0:
+        again, count, found = words_model.read_words(file, FACE_WORDS)
+        shown = f"file {file[:OUTPUT_WORDS].hex()}{sum_of(file[OUTPUT_WORDS:])} rest kept"
+        wanted = lines(answer, shown, f"again {again} {count} differ {differences(words, found)}")
+    else:
+        wanted = lines(answer, "output kept")
+    return Case(name, given("s", b"", 0, 0, 0, 0, room), wanted)
+
+
+def worded_case(name, file, room):
+    """The reading call of a file to words, in a buffer of so many words."""
+    number, count, words = words_model.read_words(file, room)
+    left = output_line(words) if number == 0 else "output kept"
+    return Case(name, given("w", b"", 0, 0, 0, 0, room), lines(f"words {number} {count}", left))
+
+
+def again_case(name, file):
+    """A file read to words and written again."""
+    number, count, words = words_model.read_words(file, FACE_WORDS)
+    answer = f"again {number} {count}"
+    if number == 0:
+        saved, length, written = words_model.write_file(words, FACE_BYTES)
+        answer += f" {saved} {length} differ {differences(file, written)}"
+    return Case(name, given("a"), lines(answer))
 
 
 def replaced(words):

@@ -2,10 +2,11 @@
 
 import random
 
-from making import random_faces
-from making.case import OUTPUT, TEXT, TEXT_LEAST, file_case, fit_case, gauge_case, levels_case, list_case, text_case
+from making import random_faces, random_words
+from making.case import FACE_BYTES, FACE_WORDS, OUTPUT, TEXT, TEXT_LEAST, again_case, file_case, fit_case, gauge_case
+from making.case import levels_case, list_case, saved_case, text_case, word_bytes, worded_case
 from making.random_arenas import make_read, some_rib
-from models import face_model, fit_model, list_model
+from models import face_model, fit_model, list_model, words_model
 
 WORDS = list_model.WORDS
 BIG = 4_294_967_295
@@ -102,6 +103,22 @@ def some_gauge(rng, name, file):
     return gauge_case(name, file, gauge)
 
 
+def room_lent(rng, need, most):
+    """Bytes or words for an output of which so many are needed: mostly enough. Of what is refused none are needed."""
+    return max(0, rng.choice([need, need, need + 1, need + 4, most, most, need - 1, need - 1, need // 2, 0]))
+
+
+def some_words(rng, name, file):
+    """The reading call of a file to words."""
+    count = words_model.read_words(file, FACE_WORDS)[1]
+    return worded_case(name, file, room_lent(rng, count, FACE_WORDS))
+
+
+def some_again(rng, name, file):
+    """The round trip of a file."""
+    return again_case(name, file)
+
+
 # ---------------------------------------------------------------------------------------------------------------
 # Files with a call
 
@@ -133,10 +150,42 @@ def make_text(rng, name):
     return [file_case(name, file), text_case(f"{name}, call", file, room)]
 
 
-def made(rng, name):
-    """A file and a call on it, which need no other case."""
-    makers = [make_list] * 5 + [make_fit] * 6 + [make_levels] * 2 + [make_gauge] * 2 + [make_text] * 2 + [make_read] * 5
-    return rng.choice(makers)(rng, name)
+def make_words(rng, name):
+    file = random_faces.any_file(rng, 0.7, large=0.1)
+    return [file_case(name, file), some_words(rng, f"{name}, call", file)]
+
+
+def make_again(rng, name):
+    file = random_faces.any_file(rng, 0.8, large=0.1)
+    return [file_case(name, file), some_again(rng, f"{name}, call", file)]
+
+
+def make_saved(rng, name):
+    """Words, which are the file of the case, and the writing call on them."""
+    words = random_words.any_words(rng)
+    length = words_model.write_file(words, FACE_BYTES)[1]
+    room = room_lent(rng, length, FACE_BYTES)
+    return [file_case(name, word_bytes(words)), saved_case(f"{name}, call", words, room)]
+
+
+# What makes a file and a call on it, which need no other case, by the call, and how often it is drawn.
+MAKERS = {
+    "list": (make_list, 5),
+    "fit": (make_fit, 6),
+    "levels": (make_levels, 2),
+    "gauge": (make_gauge, 2),
+    "text": (make_text, 2),
+    "read": (make_read, 5),
+    "save": (make_saved, 4),
+    "words": (make_words, 2),
+    "again": (make_again, 1),
+}
+
+
+def made(rng, name, call=None):
+    """A file and a call on it: this one, or one that is drawn."""
+    drawn = [maker for maker, times in MAKERS.values() for _ in range(times)]
+    return (MAKERS[call][0] if call else rng.choice(drawn))(rng, name)
 
 
 def stored(count, seed):

@@ -5,6 +5,9 @@ use crate::lending::lend;
 use cases_line::number::Numbers;
 use cases_listing::call_read;
 use cases_listing::call_words;
+use cases_saving::call_again;
+use cases_saving::call_saved;
+use cases_saving::call_worded;
 use cases_shown::buffers::show_text;
 use cases_shown::byte_calls::call_gauge;
 use cases_shown::byte_calls::call_levels;
@@ -25,6 +28,22 @@ fn call_text(file: &[u8], bytes: usize)
 {
     let mut room = text_room();
     text(file, &mut room[..bytes]);
+}
+
+// Whether a letter is of a call between words and a file.
+fn is_saving(letter: u8) -> bool {
+    letter == b's' || letter == b'w' || letter == b'a'
+}
+
+// The calls between words and a file.
+fn call_saving(letter: u8, file: &[u8], output: u32) {
+    if letter == b's' {
+        call_saved(file, at_most(output, TEXT));
+    } else if letter == b'w' {
+        call_worded(file, at_most(output, WORDS));
+    } else {
+        call_again(file);
+    }
 }
 
 // The calls on an arena.
@@ -49,6 +68,8 @@ pub fn call(letter: u8, text: &[u8], file: &[u8], levels: &mut [u8], numbers: Nu
         call_gauge(file, numbers.height);
     } else if letter == b't' {
         call_text(file, at_most(numbers.output, TEXT));
+    } else if is_saving(letter) {
+        call_saving(letter, file, numbers.output);
     } else {
         call_arena(letter, text, file, levels, numbers);
     }

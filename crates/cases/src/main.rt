@@ -27,12 +27,22 @@
 //         words are replaced. After RIB come numbers with a sign before each: @I goes to word I, and a blank and a number
 //         puts the number there and goes on to the next word.
 //     d   the list call, and then the first ARENA words of its arena
+//     s   the writing call, in a buffer of OUTPUT bytes, at most 13,700, on the words that the file is: four bytes a word,
+//         the high byte first, and bytes at the end that fill no word are left out
+//     w   the reading call of a file to words, in a buffer of OUTPUT words, at most 16,400
+//     a   the same in a room for every face, and the words written to a file again
 //
 // Before a call each word of a lent buffer is 2,863,311,530. The list and fit calls print their number and fields; where
 // they are taken, the output's words and whether those after are as they were; the record, level, m and true p of each
 // item of the arena's list, m and p as the reading call gives them, and the numbers with which that call refuses place 0
 // and the place after the last; and of a refusal whether each buffer is as it was. Of a long list or output the first
 // items or words are printed, and a sum of the others.
+//
+// The byte buffer of `s` has 170 in each byte before the call. `s` prints the number and the length; where the call is
+// taken, the file in hexadecimal and whether the bytes after it are as they were, and then the file read to words again:
+// number, count, and how many of the words that it was written from are not the same. `w` prints the number and the count,
+// and the output as above. `a` prints the number and the count of the words, and where the file is taken the number and the
+// length of the one that is written again, and how many bytes of the given one are not the same in it.
 mod calls;
 mod case;
 mod fitting;

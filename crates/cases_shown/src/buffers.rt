@@ -1,18 +1,20 @@
-// What a call left in its output, a text or an arena.
+// What a call left in its output, a file, a text or an arena.
 ghost use Prim.Native.Nat.{_≤_};
 use crate::kept::is_blank;
 use crate::kept::is_untouched;
 use crate::kept::put_kept;
 use crate::print::end_line;
 use crate::print::put;
+use crate::print::put_bytes;
 use crate::print::put_row;
 use crate::print::put_sum;
 use crate::sum::sum_of;
+use crate::sum::sum_of_bytes;
 
-// How many words of an output are shown. Of those after them a sum is.
+// How many words of an output, or bytes of a file, are shown. Of those after them a sum is.
 const WORDS: usize = 60;
 
-// How many of so many words are shown.
+// How many of so many words or bytes are shown.
 fn shown_of(words: usize) -> usize
     ensures { λ r. ⌜ r ≤ words ⌝ }
 {
@@ -25,6 +27,15 @@ fn put_words(words: &[u32]) {
     put_row(&words[..shown]);
     if shown < words.len() {
         put_sum(sum_of(&words[shown..]));
+    }
+}
+
+// Bytes of a file, in hexadecimal.
+pub fn put_file(bytes: &[u8]) {
+    let shown = shown_of(bytes.len());
+    put_bytes(&bytes[..shown]);
+    if shown < bytes.len() {
+        put_sum(sum_of_bytes(&bytes[shown..]));
     }
 }
 

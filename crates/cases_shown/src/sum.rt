@@ -1,4 +1,4 @@
-// Words in one number, for those of a long row that are not shown. tools/making/case.py states the same formula.
+// Words or bytes in one number, for those of a long row that are not shown. tools/making/case.py states the same formula.
 ghost use Prim.Native.Nat.{_<_};
 
 const MODULUS: u64 = 1_000_003;
@@ -19,6 +19,20 @@ pub fn sum_of(words: &[u32]) -> u64 {
     let mut i = 0;
     while i < words.len() {
         sum = with_word(sum, words[i]);
+        i += 1;
+    }
+    sum
+}
+
+fn word_of(byte: u8) -> u32 {
+    byte as u32
+}
+
+pub fn sum_of_bytes(bytes: &[u8]) -> u64 {
+    let mut sum = 0;
+    let mut i = 0;
+    while i < bytes.len() {
+        sum = with_word(sum, word_of(bytes[i]));
         i += 1;
     }
     sum
