@@ -1,11 +1,13 @@
 // The list call and the fit call on one file, each once by each program that is measured, and the reading call twice by
-// each: on the list that Rattle left in the arena, and on the one that C left.
+// each: on the list that Rattle left in the arena, and on the one that C left. The words of the file are read, and the
+// file of these words is written, each once by Rattle and once by C.
 //
 //     calls FILE LEVELS RIB
 //
 // LEVELS is a file of one byte a size, RIB a number from 0 to 20. The opening is 64,000 by 64,000. The lists are held
-// against that of plain arrays, and the layout against that of the stored lists. Four numbers are printed: the items,
-// the area, and the bytes of stack that Rattle's list call and its fit call touched. The instructions inside a function
+// against that of plain arrays, the layout against that of the stored lists, the words of Rattle against those of C,
+// and the files of the words against the file itself with version 2. Five numbers are printed: the items, the area, the
+// bytes of stack that Rattle's list call and its fit call touched, and the words. The instructions inside a function
 // are for callgrind to count.
 #include <stdio.h>
 #include <stdlib.h>
@@ -15,9 +17,11 @@
 #include "lists.h"
 #include "rattle.h"
 #include "reading.h"
+#include "saving.h"
 #include "stored.h"
 
 enum { OPENING = 64000, PAIRS = 2 * 449, PLACES = 5 * 64 };
+enum { FACE_WORDS = 3 * 64 + 2 * 512, FILE_BYTES = 6 + 3 * 64 + 4 * 512 };
 
 static uint8_t file_room[4096], levels_room[512];
 static uint32_t arena_room[WORDS], scratch_room[WORDS];
@@ -97,6 +101,23 @@ static size_t fits(bytes file, bytes levels, uint32_t rib, uint32_t *area) {
     return stack;
 }
 
+// Answers with the number of words.
+static size_t saves(bytes file) {
+    static uint32_t in_c[FACE_WORDS], rattle[FACE_WORDS];
+    static uint8_t again[FILE_BYTES], written_in_c[FILE_BYTES], written[FILE_BYTES];
+    size_t count = saving_read(file, (words){in_c, FACE_WORDS});
+    hold(count != 0, "the number of words in C");
+    size_t rattle_count = rattle_read_words(file.bytes, file.length, rattle, FACE_WORDS);
+    hold(rattle_count == count && memcmp(rattle, in_c, sizeof in_c) == 0, "the face in words by Rattle");
+    memcpy(again, file.bytes, file.length);
+    again[4] = 2;
+    size_t c_length = saving_write((words){in_c, count}, written_in_c, FILE_BYTES);
+    size_t length = rattle_write_file(rattle, count, written, FILE_BYTES);
+    hold(c_length == file.length && memcmp(written_in_c, again, sizeof again) == 0, "the file of the words in C");
+    hold(length == file.length && memcmp(written, again, sizeof again) == 0, "the file of the words by Rattle");
+    return count;
+}
+
 int main(int argc, char **argv) {
     if (argc != 4) return 2;
     bytes file = read_file(argv[1], file_room, sizeof file_room);
@@ -105,6 +126,6 @@ int main(int argc, char **argv) {
     uint32_t area, rib = (uint32_t)atoi(argv[3]);
     size_t list_stack = lists(file, levels, rib, &items), fit_stack = fits(file, levels, rib, &area);
     rattle_build(file.bytes, file.length, levels.bytes, levels.length, rib, arena_room, WORDS);
-    printf("%zu %u %zu %zu\n", items, area, list_stack, fit_stack);
+    printf("%zu %u %zu %zu %zu\n", items, area, list_stack, fit_stack, saves(file));
     return 0;
 }

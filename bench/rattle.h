@@ -25,4 +25,10 @@ uint8_t rattle_build(const uint8_t *file, size_t file_bytes, const uint8_t *leve
 // Answers with p of the item at a place, 0 where a check fails.
 uint32_t rattle_read(const uint32_t *arena, size_t arena_words, uint32_t place);
 
+// Answers with the length of the file, 0 where a check fails.
+uint32_t rattle_write_file(const uint32_t *words, size_t word_count, uint8_t *output, size_t output_bytes);
+
+// Answers with the number of words, 0 where a check fails.
+uint32_t rattle_read_words(const uint8_t *file, size_t file_bytes, uint32_t *output, size_t output_words);
+
 #endif

@@ -24,6 +24,7 @@ tables='own uncut ones eights scattered'
 lengths='1 16 64 128 256 448'
 ways='newer-gap newer-tie older-gap older-tie'
 read_face=row-of-64
+saved='row-of-64 mixed-64 balanced-64 mixed-64-repeated lopsided-of-8'
 rib=20
 page=docs/BENCHMARKS.md
 kit=$(dirname "$(dirname "$(readlink -f "$(command -v rt)")")")
@@ -43,13 +44,13 @@ quietly() { # COMMAND WORD...
 # Proves the crates, and in a temporary folder, beside copies of them, the crate of the exported calls. What target/ has
 # proved is not proved again.
 make_library() {
-    quietly rt check fit faces
+    quietly rt check fit saving faces
     mkdir -p "$work/target"
     cp -R crates crates.txt "$work"
     cp -R target/rlib target/stamp "$work/target"
     mkdir -p "$work/crates/rattle_calls/src"
     cp bench/rattle.rt.txt "$work/crates/rattle_calls/src/lib.rt"
-    echo 'rattle_calls: maxplus merging parts shapes placing fit' >>"$work/crates.txt"
+    echo 'rattle_calls: maxplus merging parts shapes placing fit saving' >>"$work/crates.txt"
     (cd "$work" && quietly rt staticlib rattle_calls)
 }
 
@@ -281,6 +282,20 @@ reading_table() {
     done
 }
 
+# Words to a file, and a file to words.
+saving_table() {
+    header face bytes words 'write, Rattle' "${c_names[@]}" 'read, Rattle' "${c_names[@]}"
+    for face in $saved; do
+        name=$face-own
+        read -r _ _ _ _ words <"$work/$name.printed"
+        row $face "$(wc -c <"$work/$face.fce")" "$words" \
+            "$(beside_c "$(rattle rattle_write_file $name)" "$(inside saving_write $name-gcc)" \
+                "$(inside saving_write $name-clang)")" \
+            "$(beside_c "$(rattle rattle_read_words $name)" "$(inside saving_read $name-gcc)" \
+                "$(inside saving_read $name-clang)")"
+    done
+}
+
 process_table() {
     header face 'bytes printed' 'inside main' 'whole process'
     whole=$(sed -n 's/^ *\([0-9,]*\) .*PROGRAM TOTALS/\1/p' "$work/process.counts" | tr -d ,)
@@ -290,7 +305,7 @@ process_table() {
 stack_table() {
     header face 'list, Rattle' 'fit, Rattle'
     for face in $faces; do
-        read -r _ _ list fit <"$work/$face-own.printed"
+        read -r _ _ list fit _ <"$work/$face-own.printed"
         row $face "$list" "$fit"
     done
 }
@@ -316,6 +331,7 @@ print_all() {
     with '## Sizes as they are printed' printed_table
     with '## With ribs' ribs_table
     with '## The reading call' reading_table
+    with '## Saving a face' saving_table
     with '## The program faces' process_table
     with '## Stack' stack_table
 }
@@ -325,7 +341,7 @@ print_all() {
 echo 'Proving the calls and building the programs.' >&2
 make_library
 compile merge merge.c lazy.c plain.c useful.c
-compile calls calls.c lists.c lazy.c plain.c useful.c reading.c stored.c face.c
+compile calls calls.c lists.c lazy.c plain.c useful.c reading.c stored.c face.c saving.c
 PYTHONPATH=tools python3 -B -m making.bench_faces "$work" $faces $(growing) $printed
 profile_all
 print_all | tee "$work/tables"
