@@ -27,6 +27,8 @@ CALLS = [
     ("shapes/src/listing.rt", "list"),
     ("fit/src/fitting.rt", "fit"),
     ("report/src/face.rt", "faces_text"),
+    ("saving/src/write.rt", "write_file"),
+    ("saving/src/read.rt", "read_words"),
 ]
 THEOREMS = [
     ("slicing/proofs/Demand2.antt", "demand-2"),
@@ -50,6 +52,12 @@ THEOREMS = [
     ("slicing/proofs/Starts.antt", "starts-upward"),
     ("slicing/proofs/Reach.antt", "shapes-reach"),
     ("slicing/proofs/Reach.antt", "shapes-most"),
+    ("written/proofs/FileOf.antt", "file-read"),
+    ("written/proofs/FileOf.antt", "same-file"),
+    ("saving/proofs/RoundTrips.antt", "written-read"),
+    ("saving/proofs/RoundTrips.antt", "words-again"),
+    ("saving/proofs/RoundTrips.antt", "file-again"),
+    ("saving/proofs/RoundTrips.antt", "version-2-again"),
 ]
 
 IMPORT = re.compile(r"^(?:ghost |pub )*use Rattle·(\w+)(?:·\w+)?\.(specs|proofs)\.((?:inside\.)?\w+)\.\{([^}]*)\}", re.M)
