@@ -1,5 +1,5 @@
--- The sizes that the reader took are those that stand in the bytes, and these hang on their own bytes alone.
--- The reader takes a size only as it stands at its place, four bytes after the size before it.
+-- The sizes that the reader took are those that stand in the bytes or words, and those of bytes hang on their own bytes alone.
+-- The reader takes a size only as it stands at its place, a step after the size before it.
 use mathlib.Core.Path.{_≡_, refl, sym, ap, ap₂, _∙_}
 use mathlib.Core.List.{List, [], _∷_}
 use Prim.Native.Nat.{ℕ, zero, suc, _+_, _*_, _<_}
@@ -10,28 +10,35 @@ use Rattle.checks.specs.Check.{Limits, Order}
 use Rattle.checks.specs.Answer.{taken}
 use Rattle.checks.proofs.Answers.{same-taken, ask-taken, next-taken}
 use Rattle.slicing.specs.Item.{Item, size}
+use Rattle.sizes.specs.Rules.{Rules}
 use Rattle.sizes.specs.GaugeSizes.{sizeAt, versionRules, limited, inOrder, sizesAfter, sizesFrom}
-use Rattle.sizes.specs.inside.Sizes.{sizesIn, SizeIn}
+use Rattle.sizes.specs.inside.Sizes.{sizesBy, sizesIn, SizeIn}
 use Rattle.sizes.specs.declared.Size.{Size}
 
-after-in : (v : ℕ) (y : Item) (k : ℕ) (bytes : List ℕ) (z : List Item) → sizesAfter (versionRules v) y k bytes ≡ taken z → z ≡ sizesIn k bytes
-unfolding sizesAfter sizesIn
-after-in v y zero bytes z e = sym (same-taken [] z e)
-after-in v y (suc k) bytes z e =
-    let limits = ask-taken (limited (sizeAt bytes)) Limits _ z e in
-    let order = ask-taken (inOrder (versionRules v) y (sizeAt bytes)) Order _ z (limits .1) in
-    let rest = next-taken (sizesAfter (versionRules v) (sizeAt bytes) k (drop 4 bytes)) (λ zs. taken (sizeAt bytes ∷ zs)) z (order .1) in
-    sym (same-taken (sizeAt bytes ∷ rest .0) z (rest .2))
-    ∙ ap (λ (l : List Item). sizeAt bytes ∷ l) (after-in v (sizeAt bytes) k (drop 4 bytes) (rest .0) (rest .1))
+after-by : (rules : Rules) (y : Item) (k : ℕ) (l : List ℕ) (z : List Item) → sizesAfter rules y k l ≡ taken z → z ≡ sizesBy (rules .step) (rules .sizeOf) k l
+unfolding sizesAfter
+after-by rules y zero l z e = sym (same-taken [] z e)
+after-by rules y (suc k) l z e =
+    let x = rules .sizeOf l in
+    let limits = ask-taken (limited x) Limits _ z e in
+    let order = ask-taken (inOrder rules y x) Order _ z (limits .1) in
+    let rest = next-taken (sizesAfter rules x k (drop (rules .step) l)) (λ zs. taken (x ∷ zs)) z (order .1) in
+    sym (same-taken (x ∷ rest .0) z (rest .2))
+    ∙ ap (λ (zs : List Item). x ∷ zs) (after-by rules x k (drop (rules .step) l) (rest .0) (rest .1))
+
+pub from-by : (rules : Rules) (k : ℕ) (l : List ℕ) (z : List Item) → sizesFrom rules k l ≡ taken z → z ≡ sizesBy (rules .step) (rules .sizeOf) k l
+unfolding sizesFrom
+from-by rules zero l z e = sym (same-taken [] z e)
+from-by rules (suc k) l z e =
+    let x = rules .sizeOf l in
+    let limits = ask-taken (limited x) Limits _ z e in
+    let rest = next-taken (sizesAfter rules x k (drop (rules .step) l)) (λ zs. taken (x ∷ zs)) z (limits .1) in
+    sym (same-taken (x ∷ rest .0) z (rest .2))
+    ∙ ap (λ (zs : List Item). x ∷ zs) (after-by rules x k (drop (rules .step) l) (rest .0) (rest .1))
 
 pub from-in : (v k : ℕ) (bytes : List ℕ) (z : List Item) → sizesFrom (versionRules v) k bytes ≡ taken z → z ≡ sizesIn k bytes
-unfolding sizesFrom sizesIn
-from-in v zero bytes z e = sym (same-taken [] z e)
-from-in v (suc k) bytes z e =
-    let limits = ask-taken (limited (sizeAt bytes)) Limits _ z e in
-    let rest = next-taken (sizesAfter (versionRules v) (sizeAt bytes) k (drop 4 bytes)) (λ zs. taken (sizeAt bytes ∷ zs)) z (limits .1) in
-    sym (same-taken (sizeAt bytes ∷ rest .0) z (rest .2))
-    ∙ ap (λ (l : List Item). sizeAt bytes ∷ l) (after-in v (sizeAt bytes) k (drop 4 bytes) (rest .0) (rest .1))
+unfolding sizesIn
+from-in v k bytes z e = from-by (versionRules v) k bytes z e
 
 pub in-same : (k : ℕ) (x y : List ℕ) → ((i : ℕ) → i < 4 * k → getD x i 0 ≡ getD y i 0) → sizesIn k x ≡ sizesIn k y
 unfolding sizesIn

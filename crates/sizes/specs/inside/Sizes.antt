@@ -14,10 +14,14 @@ use Rattle.sizes.specs.declared.Size.{Size}
 abbrev pub sizeNumber : Bool → Bool → ℕ
 sizeNumber limits order = number (ask limits Limits (ask order Order (taken (tt {0}))))
 
+-- The first n sizes of what is read, each of which takes `step` bytes or words and is what `sizeOf` finds there.
+abbrev pub sizesBy : ℕ → (List ℕ → Item) → ℕ → List ℕ → List Item
+sizesBy step sizeOf zero l = []
+sizesBy step sizeOf (suc n) l = sizeOf l ∷ sizesBy step sizeOf n (drop step l)
+
 -- The first n sizes of the bytes.
 unfoldable pub sizesIn : ℕ → List ℕ → List Item
-sizesIn zero bytes = []
-sizesIn (suc n) bytes = sizeAt bytes ∷ sizesIn n (drop 4 bytes)
+sizesIn n bytes = sizesBy 4 sizeAt n bytes
 
 -- The bytes are those of n sizes.
 abbrev pub Sized : ℕ → List ℕ → Type 0
