@@ -71,6 +71,14 @@ module _ {A B : Type 0} where
   next-taken (refused c) f y e = absurd (not-both c y e)
   next-taken (taken x) f y e = (x, refl, e)
 
+  pub next-same : (a : Answer A) (f g : A → Answer B) → ((x : A) → f x ≡ g x) → next a f ≡ next a g
+  next-same (refused c) f g h = refl
+  next-same (taken x) f g h = h x
+
+  pub next-next : {D : Type 0} (a : Answer A) (f : A → Answer B) (g : B → Answer D) → next (next a f) g ≡ next a (λ x. next (f x) g)
+  next-next (refused c) f g = refl
+  next-next (taken x) f g = refl
+
   pub next-refused : (P : Check → Type 0) (a : Answer A) (f : A → Answer B) → RefusedBy P a → ((x : A) → RefusedBy P (f x)) → RefusedBy P (next a f)
   next-refused P (refused c) f h k = h
   next-refused P (taken x) f h k = k x

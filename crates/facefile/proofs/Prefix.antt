@@ -12,6 +12,7 @@ use lib.Dec.{leb, ltb, eqb, leb·zero, leb·suc-suc, eqb·suc-zero}
 use borrow.Author.Tests.{ltb-true}
 use Rattle.checks.specs.Check.{Check, SizeCount, Present, Gauges}
 use Rattle.checks.specs.Answer.{Answer, refused, taken, ask, next}
+use Rattle.checks.proofs.Answers.{next-next}
 use Rattle.slicing.specs.Item.{Item}
 use Rattle.slicing.specs.Tree.{Tree, gauge, beside, stacked}
 use Rattle.sizes.specs.GaugeSizes.{field, within, sizeAt, versionRules, sizesAfter, sizesFrom}
@@ -115,17 +116,13 @@ module _ (v k : ℕ) (f : State → Answer Tree) (on : Same k f) where
       (either-same (eqb kind 0x02) _ _ _ _ (join-same beside m bytes parts g enough)
       (either-same (eqb kind 0x03) _ _ _ _ (join-same stacked m bytes parts g enough) refl)))
 
-next-next : (a : Answer State) (f : State → Answer State) → next (next a f) atEnd ≡ next a (λ s. next (f s) atEnd)
-next-next (refused c) f = refl
-next-next (taken s) f = refl
-
 entries-same : (v k : ℕ) → Same k (λ s. next (entries (versionRules v) k s) atEnd)
 unfolding entries
 entries-same v zero m rest parts g h = end-same m rest parts g h
 entries-same v (suc k) m rest parts g h =
-    next-next (entry (versionRules v) (state (take m rest) parts g)) (entries (versionRules v) k)
+    next-next (entry (versionRules v) (state (take m rest) parts g)) (entries (versionRules v) k) atEnd
     ∙ entry-same v k (λ s. next (entries (versionRules v) k s) atEnd) (entries-same v k) m rest parts g h
-    ∙ sym (next-next (entry (versionRules v) (state rest parts g)) (entries (versionRules v) k))
+    ∙ sym (next-next (entry (versionRules v) (state rest parts g)) (entries (versionRules v) k) atEnd)
 
 header-same : (m : ℕ) (s : List ℕ) → 7 ≤ m → header (take m s) ≡ header s
 unfolding header

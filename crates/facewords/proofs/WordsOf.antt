@@ -11,6 +11,7 @@ use Rattle.checks.specs.Answer.{Answer, taken, next}
 use Rattle.checks.proofs.Answers.{next-taken}
 use Rattle.slicing.specs.Tree.{Tree, gaugeCount, sizeCount}
 use Rattle.slicing.specs.Good.{Good}
+use Rattle.sizes.proofs.SizeChecks.{within-of}
 use Rattle.entries.specs.Entry.{State, entries}
 use Rattle.entries.proofs.Took.{state}
 use Rattle.facefile.specs.Format.{onePart, atEnd}
@@ -18,7 +19,7 @@ use Rattle.facefile.proofs.Taken.{end-read, Sound, reads-sound}
 use Rattle.writing.specs.Words.{listWords}
 use Rattle.written.specs.EntriesOf.{entriesOf, entryCount}
 use Rattle.written.proofs.Written.{all-written}
-use Rattle.written.proofs.ReadBack.{entries-long, within-of, tree-puts}
+use Rattle.written.proofs.ReadBack.{entries-long, tree-puts}
 use Rattle.written.proofs.FileOf.{entry-total, entry-range}
 use Rattle.facewords.specs.Words.{wordRules, firstWord, wordsStart, wordsFace, wordsOf}
 use Rattle.facewords.proofs.FirstWord.{first-taken}

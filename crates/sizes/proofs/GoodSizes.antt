@@ -15,7 +15,7 @@ use Rattle.slicing.specs.Item.{Item, height, width}
 use Rattle.slicing.specs.Good.{Limited, Ordered, GoodGauge}
 use Rattle.sizes.specs.Rules.{Rules, asksOrder}
 use Rattle.sizes.specs.GaugeSizes.{within, limited, ordered, inOrder, sizesAfter, sizesFrom}
-use Rattle.sizes.proofs.SizeChecks.{within-true}
+use Rattle.sizes.proofs.SizeChecks.{within-true, within-of}
 
 limited-true : (z : Item) → limited z ≡ true → Limited z
 limited-true z e =
@@ -23,6 +23,10 @@ limited-true z e =
     let h = within-true 1 1_000 (height z) (both .0) in
     let w = within-true 1 1_000 (width z) (both .1) in
     record { high = h .0; wide = w .0; low = h .1; narrow = w .1 }
+
+pub limited-of : (z : Item) → Limited z → limited z ≡ true
+limited-of z l =
+    simp (within-of 1 1_000 (height z) (l .high) (l .low), within-of 1 1_000 (width z) (l .wide) (l .narrow))
 
 -- z comes after y in a strictly ordered list.
 pub record After (y z : Item) : Type 0 where

@@ -29,6 +29,9 @@ pub within-true : (low high x : ℕ) → within low high x ≡ true → (low ≤
 within-true low high x e =
     let both = and-eq-true-iff (leb low x) (leb x high) .0 e in (leb-true low x (both .0), leb-true x high (both .1))
 
+pub within-of : (low high x : ℕ) → low ≤ x → x ≤ high → within low high x ≡ true
+within-of low high x h k = simp (le-leb low x h, le-leb x high k)
+
 pub ordered-yes : (h w k v : ℕ) → k < h → ltb w v ≡ ordered (size h w) (size k v)
 ordered-yes h w k v p = simp (lt-ltb k h p)
 

@@ -16,6 +16,7 @@ use Rattle.slicing.specs.Good.{Good}
 use Rattle.slicing.proofs.Counts.{gauges-joined}
 use Rattle.slicing.proofs.Depths.{depth-few}
 use Rattle.sizes.specs.GaugeSizes.{field, versionRules}
+use Rattle.sizes.proofs.SizeChecks.{within-of}
 use Rattle.entries.specs.Entry.{State, entries}
 use Rattle.entries.proofs.Took.{state}
 use Rattle.facefile.specs.Format.{Bytes, marked, header, start, onePart, atEnd, faceOf}
@@ -24,7 +25,7 @@ use Rattle.facefile.proofs.Taken.{face-read, face-taken}
 use Rattle.written.specs.EntriesOf.{entriesOf, entryCount}
 use Rattle.written.specs.FileOf.{fieldBytes, fileOf}
 use Rattle.written.proofs.Written.{face-written}
-use Rattle.written.proofs.ReadBack.{Codes, entries-long, within-of, tree-puts}
+use Rattle.written.proofs.ReadBack.{Codes, entries-long, tree-puts}
 
 two-bytes : (x : ℕ) → 256 * (x / 256) + x % 256 ≡ x
 two-bytes x = omega arith

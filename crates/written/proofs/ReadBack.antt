@@ -9,13 +9,16 @@ use native.Mathlib.Omega.{arith}
 use lib.ListN.{length, drop, length-append}
 use lib.Seq.{drop-at}
 use borrow.Author.Tests.{le-leb, lt-ltb, ne-eqb}
-use Rattle.checks.specs.Answer.{Answer, refused, taken, next}
-use Rattle.slicing.specs.Item.{Item, height, width}
+use Rattle.checks.specs.Answer.{Answer, taken, next}
+use Rattle.checks.proofs.Answers.{next-same, next-next}
+use Rattle.slicing.specs.Item.{Item}
 use Rattle.slicing.specs.Tree.{Tree, gauge, beside, stacked, gaugeCount, sizeCount}
 use Rattle.slicing.specs.Good.{Limited, GoodGauge, Good}
 use Rattle.slicing.proofs.Counts.{gauges-joined, sizes-joined}
 use Rattle.sizes.specs.Rules.{Rules}
-use Rattle.sizes.specs.GaugeSizes.{within, limited, inOrder, sizesAfter, sizesFrom}
+use Rattle.sizes.specs.GaugeSizes.{inOrder, sizesAfter, sizesFrom}
+use Rattle.sizes.proofs.SizeChecks.{within-of}
+use Rattle.sizes.proofs.GoodSizes.{limited-of}
 use Rattle.entries.specs.Entry.{State, gaugeSizes, gaugeEntry, joinParts, joinEntry, kindEntry, entry, entries}
 use Rattle.entries.specs.inside.Kinds.{Cut, cut-beside, cut-stacked}
 use Rattle.entries.proofs.Took.{state}
@@ -27,21 +30,6 @@ pub record Codes (rules : Rules) (code : List Item → List ℕ) : Type 0 where
   pub long : (s : List Item) → length (code s) ≡ rules .step * length s
   pub first : (z : Item) (s : List Item) (rest : List ℕ) → rules .sizeOf (code (z ∷ s) ++ rest) ≡ z
   pub after : (z : Item) (s : List Item) (rest : List ℕ) → drop (rules .step) (code (z ∷ s) ++ rest) ≡ code s ++ rest
-
-pub within-of : (low high x : ℕ) → low ≤ x → x ≤ high → within low high x ≡ true
-within-of low high x h k = simp (le-leb low x h, le-leb x high k)
-
-limited-of : (z : Item) → Limited z → limited z ≡ true
-limited-of z l =
-    simp (within-of 1 1_000 (height z) (l .high) (l .low), within-of 1 1_000 (width z) (l .wide) (l .narrow))
-
-pub next-next : {A B C : Type 0} (a : Answer A) (f : A → Answer B) (g : B → Answer C) → next (next a f) g ≡ next a (λ x. next (f x) g)
-next-next (refused c) f g = refl
-next-next (taken x) f g = refl
-
-next-same : {A B : Type 0} (a : Answer A) (f g : A → Answer B) → ((x : A) → f x ≡ g x) → next a f ≡ next a g
-next-same (refused c) f g h = refl
-next-same (taken x) f g h = h x
 
 -- A run of entries and a run after it.
 entries-add : (rules : Rules) (j k : ℕ) (s : State) → entries rules (j + k) s ≡ next (entries rules j s) (entries rules k)
