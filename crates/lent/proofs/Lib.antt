@@ -1,3 +1,4 @@
 pub mod LevelRange
 pub mod Asking
 pub mod Calling
+pub mod Starts

@@ -4,8 +4,8 @@ use mathlib.Core.Path.{_≡_, refl, sym, ap, subst, _∙_}
 use mathlib.Core.List.{List}
 use Prim.Native.Nat.{ℕ, _*_, _≤_, _<_}
 use native.Mathlib.Omega.{arith}
-use lib.ListN.{length, take, drop, length-take}
-use lib.Seq.{take-at, length-take-le}
+use lib.ListN.{length, take, length-take}
+use lib.Seq.{length-take-le}
 use Rattle.text.specs.Printing.{Printed}
 use Rattle.slicing.specs.Item.{Item}
 use Rattle.slicing.specs.Tree.{Tree, gaugeCount}
@@ -18,7 +18,7 @@ use Rattle.facefile.specs.Format.{faceOf}
 use Rattle.facefile.specs.Summary.{summary}
 use Rattle.facefile.proofs.Answered.{answer-taken, answer-refused}
 use Rattle.facefile.proofs.Taken.{face-taken}
-use Rattle.lent.specs.Lent.{writtenOver}
+use Rattle.lent.proofs.Starts.{starts}
 use Rattle.writing.specs.Words.{listWords}
 use Rattle.shapes.specs.inside.Taken.{Wrote, WroteFace}
 use Rattle.writing.proofs.WordLaws.{words-length as list-words-length}
@@ -61,11 +61,6 @@ module _ (face : Fitted) (count : ℕ) (items : List ℕ) (gauges : ℕ) (layout
   pub told-yes : face .number ≡ 0 → Renders face (take (2 * count) items) (take (5 * gauges) layout) old new r → (t : Tree) → Worked t face count items gauges layout → Printed (pickPrinted t (smallest widest (shapes 0 t))) old new r
   told-yes zero render t w =
       placed t face (take (2 * count) items) (take (5 * gauges) layout) old new r (smallest widest (shapes 0 t)) (w .fitted-is) zero (w .listed) (w .laid) render
-
--- What stands at the start of an output.
-starts : (k : ℕ) (words old new : List ℕ) → new ≡ writtenOver words old → k ≡ length words → take k new ≡ words
-unfolding writtenOver
-starts k words old new e n = ap (λ (l : List ℕ). take k l) e ∙ take-at words (drop (length words) old) k (sym n)
 
 laid-by : (t : Tree) (p : Pick) (gauges : ℕ) (old new : List ℕ) → gauges ≡ gaugeCount t → new ≡ faceWords 0 t p old → (z : Item) → p ≡ picked z → take (5 * gauges) new ≡ words t (place 0 t z 0 0)
 laid-by t p gauges old new g e z is =

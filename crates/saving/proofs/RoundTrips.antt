@@ -1,10 +1,9 @@
 -- Words that are written are read again as the same words, and a file that is read is written again as itself, with version 2 where it had version 1.
 -- Taken words are those of their tree and a taken file of version 2 is that of its tree, so each call gives what the other was given.
-use mathlib.Core.Path.{_≡_, refl, sym, ap, ap₂, subst, _∙_}
+use mathlib.Core.Path.{_≡_, sym, ap, subst, _∙_}
 use mathlib.Core.List.{List}
 use Prim.Native.Nat.{ℕ, _≤_}
-use lib.ListN.{length, set, take, drop, length-set}
-use lib.Seq.{take-at}
+use lib.ListN.{length, set, take, length-set}
 use borrow.Author.Tests.{le-leb}
 use Rattle.checks.specs.Answer.{Answer, taken}
 use Rattle.checks.proofs.Answers.{number-taken}
@@ -12,10 +11,10 @@ use Rattle.slicing.specs.Tree.{Tree}
 use Rattle.sizes.specs.GaugeSizes.{field}
 use Rattle.facefile.specs.Format.{Bytes, faceOf}
 use Rattle.facefile.proofs.Taken.{face-taken}
-use Rattle.lent.specs.Lent.{writtenOver}
 use Rattle.lent.specs.Questions.{outputLent}
 use Rattle.lent.specs.Call.{callOn}
 use Rattle.lent.proofs.Calling.{call-taken}
+use Rattle.lent.proofs.Starts.{starts}
 use Rattle.written.specs.FileOf.{fileOf}
 use Rattle.written.proofs.FileOf.{file-read, file-written, as-version-2}
 use Rattle.facewords.specs.Words.{wordsFace, wordsOf}
@@ -24,11 +23,6 @@ use Rattle.saving.specs.declared.Saved.{Saved}
 use Rattle.saving.specs.declared.Worded.{Worded}
 use Rattle.saving.specs.Saving.{saveCall, saved, savedOutput, SavePromise, wordCall, worded, wordOutput, WordPromise}
 use Rattle.saving.specs.RoundTrips.{WroteFile, WroteWords}
-
--- What was written over a buffer's start stands there.
-at-start : (l old : List ℕ) → take (length l) (writtenOver l old) ≡ l
-unfolding writtenOver
-at-start l old = take-at l (drop (length l) old) (length l) refl
 
 -- A call that asks for the room of what it writes of a face, and has it, is taken.
 with-room : (face : Answer Tree) (t : Tree) (code : Tree → List ℕ) (output : ℕ) → face ≡ taken t → length (code t) ≤ output → callOn face (λ u. outputLent (length (code u)) output) ≡ taken t
@@ -59,7 +53,7 @@ module _ (words old : List ℕ) (r : Saved) (new : List ℕ) (w : SavePromise (w
       let all = wrote t (answer .1) in (
         t,
         call-taken (wordsFace words) (λ u. outputLent (length (fileOf u)) (length old)) t (answer .1) .0,
-        ap₂ take (all .long) (all .output) ∙ at-start (fileOf t) old,
+        starts (r .length) (fileOf t) old new (all .output) (all .long),
       )
 
 -- The reading call, where the file means the face t.
@@ -86,7 +80,7 @@ module _ (file old : List ℕ) (r : Worded) (new : List ℕ) (w : WordPromise (f
       let all = read t (answer .1) in (
         t,
         call-taken (faceOf file) (λ u. outputLent (length (wordsOf u)) (length old)) t (answer .1) .0,
-        ap₂ take (all .long) (all .output) ∙ at-start (wordsOf t) old,
+        starts (r .count) (wordsOf t) old new (all .output) (all .long),
       )
 
 -- "What is written must be read as the same entries": the file means the face that the words mean.

@@ -1,10 +1,9 @@
 -- Demand 2 of what the list call leaves, in the demand's own order: the output and the arena of every call that is taken, and that no level is in the list.
 -- The call's promise equates them with the definitions, and the laws of shape lists say the rest.
-use mathlib.Core.Path.{_≡_, refl, sym, ap, ap₂, subst, _∙_}
+use mathlib.Core.Path.{_≡_, refl, sym, ap, subst, _∙_}
 use mathlib.Core.List.{List}
 use Prim.Native.Nat.{ℕ, _*_}
-use lib.ListN.{length, take, drop}
-use lib.Seq.{take-append-seam}
+use lib.ListN.{length, take}
 use Rattle.checks.specs.Answer.{Answer, taken, Asked}
 use Rattle.checks.proofs.Answers.{same-taken, number-taken}
 use Rattle.slicing.specs.Tree.{Tree, gauge, beside, stacked, gaugeCount, sizeCount}
@@ -16,8 +15,9 @@ use Rattle.slicing.proofs.PartLists.{part-gauge, part-beside, part-stacked}
 use Rattle.slicing.proofs.RecordedLaws.{items-shapes, items-turn}
 use Rattle.facefile.specs.Format.{faceOf}
 use Rattle.facefile.proofs.Taken.{face-taken}
-use Rattle.lent.specs.Lent.{Lent, writtenOver}
+use Rattle.lent.specs.Lent.{Lent}
 use Rattle.lent.proofs.Calling.{call-taken}
+use Rattle.lent.proofs.Starts.{starts}
 use Rattle.shapes.specs.declared.Listed.{Listed}
 use Rattle.shapes.specs.Listing.{listAsks, listCall, ListLeaves, ListPromise}
 use Rattle.writing.specs.Words.{listWords}
@@ -66,11 +66,10 @@ list-demand-2 file levels rib old r new p zero =
 
 -- The words that a taken call writes, from the output's start.
 words-at-start : (t : Tree) (levels : List ℕ) (rib : ℕ) (old : Lent) (r : Listed) (new : Lent) → ListLeaves (taken t) levels rib old r new → take (2 * r .count) (new .output) ≡ listWords (shapes rib t)
-unfolding writtenOver
 words-at-start t levels rib old r new leaves =
     let words = listWords (shapes rib t) in
     let count : 2 * r .count ≡ length words = ap (λ (x : Listed). 2 * x .count) (leaves .answered) ∙ sym (words-length (shapes rib t)) in
-    ap₂ take count (leaves .output) ∙ take-append-seam words (drop (length words) (old .output))
+    starts (2 * r .count) words (old .output) (new .output) (leaves .output) count
 
 -- "under every table of levels from 1 to 8".
 pub levels-alike : (face : Answer Tree) (levels levels₂ : List ℕ) (rib : ℕ) (old old₂ : Lent) (r r₂ : Listed) (new new₂ : Lent) → ListPromise face levels rib old r new → ListPromise face levels₂ rib old₂ r₂ new₂ → r .number ≡ 0 → r₂ .number ≡ 0 → ListsAlike r new r₂ new₂
