@@ -48,7 +48,6 @@ gaugeWordsAt at n = record { from = at + 2; to = at + 2 + 2 * n; count = n; next
 record TookWords (words : List ℕ) (at n : ℕ) (s u : State) : Type 0 where
   sizes : List Item
   good : GoodGauge sizes
-  few : n ≤ 8
   fits : at + 2 + 2 * n ≤ length words
   same : take (2 * n) (drop (at + 2) words) ≡ listWords sizes
   after : u ≡ stateAt words (at + 2 + 2 * n) (gauge sizes ∷ s .stack) (s .gauges + 1)
@@ -61,7 +60,6 @@ gauge-read words at n s u (took-gauge count l parts g z few some most present si
     record {
       sizes = z;
       good = sizes-taken wordRules count l z some most sized .good;
-      few = omega arith;
       fits = omega arith;
       same = ap₂ (λ (k : ℕ) (r : List ℕ). take (2 * k) r) same past ∙ words-decode .coded count l z tt present sized;
       after =
@@ -135,14 +133,11 @@ module _ (words : List ℕ) (at : ℕ) where
   cut-small kind cut cut-beside = omega arith
   cut-small kind cut cut-stacked = omega arith
 
-  -- What the code computes from them is in range.
+  -- A gauge has its count, and a join's kind fits a byte.
   module _ (w : ((t : Tree) × (stack : List Tree) × WordWalk words t at stack) × (at < length words)) where
     pub count-inside : getD words at 0 ≡ 0x01 → at + 1 < length words
     count-inside e =
         let fits = took-gauge-here words (w .0 .0) at (w .0 .1) (w .0 .2) (w .1) (getD words (at + 1) 0) e refl .fits in omega arith
-
-    pub count-few : getD words at 0 ≡ 0x01 → getD words (at + 1) 0 ≤ 8
-    count-few e = took-gauge-here words (w .0 .0) at (w .0 .1) (w .0 .2) (w .1) (getD words (at + 1) 0) e refl .few
 
     pub kind-small : (getD words at 0 ≡ 0x01 → ⊥) → getD words at 0 < 256
     kind-small e =

@@ -20,7 +20,7 @@ use Rattle.written.proofs.FileOf.{file-long}
 use Rattle.facewords.specs.Words.{wordsFace}
 use Rattle.facewords.proofs.WordsOf.{words-taken}
 use Rattle.text.specs.inside.Appending.{Appended}
-use Rattle.text.proofs.Appends.{same-bytes, joined, appended-length, rest-room, from-start}
+use Rattle.text.proofs.Appends.{same-bytes, joined, rest-room, from-start}
 use Rattle.saving.specs.Saving.{saveCall, saved, savedOutput, SavePromise}
 use Rattle.saving.proofs.OutputCall.{Few, Passing, read-counts, call-stops, call-passes}
 
@@ -77,9 +77,6 @@ module _ (words output : List ℕ) where
           all-written : Appended output 0 (fileOf (k .tree)) new next
           unfolding fileOf
           all-written = joined head (put (k .tree) (k .face-is))
-
-          pub file-kept : length new ≡ length output
-          file-kept = appended-length all-written
 
           pub file-few : next ≤ 6 + 3 * mostGauges + 4 * mostSizes
           file-few =
