@@ -141,6 +141,9 @@ taken("order-starts-anew", face(gauge((9, 9)), gauge((9, 9)), BESIDE), 2, 2, 1, 
 refused("9-at-size-2-then-8-at-size-3", face(gauge((5, 5), (5, 6), (0, 7))), 9, "For each size in turn: 9 at size 2.")
 refused("8-at-size-2-then-9-at-size-2", face(gauge((5, 5), (0, 4))), 8, "For each size in turn: 8, then 9.")
 refused("8-at-size-2-by-1001", face(gauge((1000, 5), (1001, 6))), 8, "For each size in turn: 8, then 9, by height.")
+refused("8-at-size-2-then-9", face(gauge((5, 5), (4, 1001), (3, 7))), 8, "For each size in turn: 8 at size 2.")
+refused("8-at-size-2-of-3-in-order", face(gauge((5, 5), (4, 1001), (3, 1002))), 8, "For each size in turn: 8 at size 2.")
+refused("8-at-size-2-by-0-then-9", face(gauge((5, 5), (0, 6), (0, 7))), 8, "For each size in turn: 8 at size 2, by height.")
 refused("11-at-entry-2-then-8-at-entry-3", face(ONE, BESIDE, gauge((0, 7))), 11, "For each entry in turn: entry 2.")
 refused("8-at-entry-1-then-11-at-entry-2", face(gauge((0, 7)), BESIDE), 8, "For each entry in turn: 8 at entry 1.")
 

@@ -17,7 +17,7 @@ use Rattle.sizes.specs.Rules.{Rules, asksOrder}
 use Rattle.sizes.specs.GaugeSizes.{within, limited, ordered, inOrder, sizesAfter, sizesFrom}
 use Rattle.sizes.proofs.SizeChecks.{within-true, within-of}
 
-limited-true : (z : Item) → limited z ≡ true → Limited z
+pub limited-true : (z : Item) → limited z ≡ true → Limited z
 limited-true z e =
     let both = and-eq-true-iff (within 1 1_000 (height z)) (within 1 1_000 (width z)) .0 e in
     let h = within-true 1 1_000 (height z) (both .0) in
@@ -33,7 +33,7 @@ pub record After (y z : Item) : Type 0 where
   pub lower : z .m < y .m
   pub wider : y .p < z .p
 
-ordered-true : (y z : Item) → ordered y z ≡ true → After y z
+pub ordered-true : (y z : Item) → ordered y z ≡ true → After y z
 ordered-true y z e =
     let both = and-eq-true-iff (ltb (height z) (height y)) (ltb (width y) (width z)) .0 e in
     record { lower = ltb-true (height z) (height y) (both .0); wider = ltb-true (width y) (width z) (both .1) }

@@ -1,3 +1,5 @@
 pub mod SizeChecks
+pub mod LimitedSizes
 pub mod SizesIn
 pub mod GoodSizes
+pub mod OrderedSizes

@@ -1,10 +1,11 @@
 // Checks 8 and 9 of a gauge's sizes, taken in turn.
 ghost use mathlib.Core.Path.{_≡_};
-ghost use Prim.Native.Nat.{_+_, _*_, _≤_};
+ghost use mathlib.Core.Bool.{true, false, _&&_};
+ghost use Prim.Native.Nat.{ℕ, _+_, _*_, _≤_};
 ghost use lib.ListN.{length, drop};
 ghost use Rattle.checks.specs.Answer.{number};
 ghost use Rattle.slicing.specs.Item.{size};
-ghost use Rattle.sizes.specs.GaugeSizes.{limited, ordered, inOrder, versionRules, sizesFrom};
+ghost use Rattle.sizes.specs.GaugeSizes.{limited, ordered, versionRules, sizesFrom};
 ghost use Rattle.sizes.specs.inside.Sizes.{sizeNumber};
 use crate::Size;
 use crate::field::is_within;
@@ -24,22 +25,63 @@ fn is_ordered(before: Size, z: Size) -> bool
     z.height < before.height && before.width < z.width
 }
 
-// The same, where the version asks it: version 1 alone.
-fn is_in_order(version: u32, before: Size, z: Size) -> bool
-    ensures { λ r. ⌜ r ≡ inOrder (versionRules version) (size (before .height) (before .width)) (size (z .height) (z .width)) ⌝ }
+// Check 8 of one size: its number, or 0.
+fn limits_number(z: Size) -> u32
+    ensures { λ r. ⌜ r ≡ sizeNumber (limited (size (z .height) (z .width))) true ⌝ }
 {
-    version != 1 || is_ordered(before, z)
+    if is_limited(z) {
+        return checks::TAKEN;
+    }
+    checks::LIMITS
 }
 
-// The number of the first of checks 8 and 9 that fails for one size, or 0.
-fn size_number(limits: bool, order: bool) -> u32
-    ensures { λ r. ⌜ r ≡ sizeNumber limits order ⌝ }
+// The number of the first of checks 8 and 9 that fails, where z does not stand in order after the size before it.
+fn disorder_number(before: Size, z: Size) -> u32
+    ensures { λ r. ⌜ r ≡ sizeNumber (limited (size (before .height) (before .width)) && limited (size (z .height) (z .width))) false ⌝ }
 {
-    if !limits {
+    if !is_limited(before) {
         return checks::LIMITS;
     }
-    if !order {
-        return checks::ORDER;
+    if !is_limited(z) {
+        return checks::LIMITS;
+    }
+    checks::ORDER
+}
+
+// The number of the first of checks 8 and 9 that fails among the sizes at a place in a file of version 1, or 0. Sizes
+// that stand in order lie between the first and the last, so only these two are asked whether they are within the
+// limits.
+fn ordered_number(file: &[u8], at: usize, count: usize) -> u32
+    requires { ⌜ (1 ≤ count) × (count ≤ 8) × (at + 4 * count ≤ length (now file)) ⌝ }
+    ensures { λ r. ⌜ r ≡ number (sizesFrom (versionRules 1) count (drop at (now (file .entry)))) ⌝ }
+{
+    let mut before = size_at(file, at);
+    if !is_limited(before) {
+        return checks::LIMITS;
+    }
+    let mut i = 1;
+    while i < count {
+        let z = size_at(file, at + 4 * i);
+        if !is_ordered(before, z) {
+            return disorder_number(before, z);
+        }
+        before = z;
+        i += 1;
+    }
+    limits_number(before)
+}
+
+// The same in a file of another version, which does not ask check 9.
+fn limited_number(file: &[u8], at: usize, count: usize) -> u32
+    requires { ⌜ (count ≤ 8) × (at + 4 * count ≤ length (now file)) ⌝ }
+    ensures { λ r. ⌜ ((v : ℕ) → (v ≡ 1 → ⊥) → r ≡ number (sizesFrom (versionRules v) count (drop at (now (file .entry))))) ⌝ }
+{
+    let mut i = 0;
+    while i < count {
+        if !is_limited(size_at(file, at + 4 * i)) {
+            return checks::LIMITS;
+        }
+        i += 1;
     }
     checks::TAKEN
 }
@@ -49,20 +91,8 @@ pub fn sizes_number(file: &[u8], version: u32, at: usize, count: usize) -> u32
     requires { ⌜ (1 ≤ count) × (count ≤ 8) × (at + 4 * count ≤ length (now file)) ⌝ }
     ensures { λ r. ⌜ r ≡ number (sizesFrom (versionRules version) count (drop at (now (file .entry)))) ⌝ }
 {
-    let mut before = size_at(file, at);
-    let first = size_number(is_limited(before), true);
-    if first != checks::TAKEN {
-        return first;
+    if version == 1 {
+        return ordered_number(file, at, count);
     }
-    let mut i = 1;
-    while i < count {
-        let z = size_at(file, at + 4 * i);
-        let later = size_number(is_limited(z), is_in_order(version, before, z));
-        if later != checks::TAKEN {
-            return later;
-        }
-        before = z;
-        i += 1;
-    }
-    checks::TAKEN
+    limited_number(file, at, count)
 }

@@ -2,12 +2,13 @@
 -- The loop keeps `Checking`, that the sizes from i on give the number that all of them give; the measure is what is left of the count.
 use borrow.Author.Needs.{needs}
 use Prim.Native.Nat.{_-_}
-use Rattle.facewords.proofs.WordSizes.{Checking, checking-start, checking-stop, checking-more, checking-done}
+use Rattle.sizes.proofs.LimitedSizes.{Checking, checking-start, checking-stop, checking-more, checking-done}
+use Rattle.facewords.specs.Words.{wordRules}
 use Rattle.facewords.proofs.size.sizes_number.Statement.{statement}
 use Rattle.facewords.proofs.size.sizes_number.Tie as tie
 
 abbrev Inv-loop : tie.InvT-loop
-Inv-loop words at count i₀ i = Checking words at count i
+Inv-loop words at count i₀ i = Checking wordRules words at count i
 
 abbrev μ-loop : tie.MeasureT-loop
 μ-loop words at count i₀ i = count - i
