@@ -1,5 +1,5 @@
 pub mod Sequence
-pub mod UncutTable
+pub mod TrailingZeros
 pub mod TopLevel
 pub mod Filling
 pub mod Call

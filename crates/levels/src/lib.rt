@@ -1,9 +1,6 @@
-// The levels of a face's sizes: document 01's rule, its table, and the call that fills a levels buffer.
-mod table;
-
+// The levels of a face's sizes: document 01's rule and the call that fills a levels buffer.
 use depths::Depths;
 use depths::depths_of;
-use table::UNCUT;
 ghost use mathlib.Core.Path.{_≡_};
 ghost use Prim.Native.Nat.{_≤_, min};
 ghost use lib.ListN.{length};
@@ -13,12 +10,13 @@ ghost use Rattle.facefile.specs.Format.{faceOf};
 ghost use Rattle.levels.specs.Levels.{uncutLevel, topLevel, levelsFrom, levelsCall, levelsFilled};
 ghost use Rattle.levels.specs.inside.Taken.{Fillable, OwnLevels};
 
-// The level of size r before it is cut to the top level, for a size of a face.
-fn uncut_level(r: usize) -> u8
+// The level of size r before it is cut to the top level, for a size of a face: the trailing zero bits of r, halved, plus
+// one.
+fn uncut_level(r: usize) -> u32
     requires { ⌜ (1 ≤ r) × (r ≤ mostSizes) ⌝ }
     ensures { λ level. ⌜ level ≡ uncutLevel r ⌝ }
 {
-    UNCUT[r - 1]
+    u32::trailing_zeros(r as u32) / 2 + 1
 }
 
 // The level of size r, cut to the top level.
@@ -27,7 +25,7 @@ fn cut_level(r: usize, top: u8) -> u8
     ensures { λ level. ⌜ level ≡ min (uncutLevel r) top ⌝ }
 {
     let uncut = uncut_level(r);
-    if uncut < top { uncut } else { top }
+    if uncut < top as u32 { uncut as u8 } else { top }
 }
 
 // The top level of a face of n sizes.

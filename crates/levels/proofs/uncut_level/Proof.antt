@@ -1,20 +1,19 @@
--- `levels::uncut_level` meets its contract: the byte at place r - 1 of the table is the uncut level of size r.
--- The table's bytes are the list that the law speaks of, which the checker computes from the definition.
+-- `levels::uncut_level` meets its contract: the trailing zeros of r, halved, plus one are the uncut level of size r.
+-- A size number is at least 1 and at most 512, so the law on trailing zeros has it; there are at most 32 of them, so the sum fits.
 use borrow.Author.Needs.{needs}
-use Rattle.levels.specs.Levels.{levelsFrom, uncutLevel, timesFour}
-use Rattle.levels.proofs.UncutTable.{table-level}
+use lib.Count.{trailing-le}
+use Rattle.levels.proofs.TrailingZeros.{uncut-zeros}
 use Rattle.levels.proofs.uncut_level.Statement.{statement}
 use Rattle.levels.proofs.uncut_level.Tie as tie
 
-sub-result : tie.Need-sub-result
-sub-result c = search needs
+cast-result : tie.Need-cast-result
+cast-result c = search needs
 
-array-read-result : tie.Need-array-read-result
-array-read-result c = search needs
+add-result : tie.Need-add-result
+add-result c = search (needs, trailing-le 32 (c .args .r))
 
 returns : tie.Need-returns
-unfolding levelsFrom uncutLevel timesFour
-returns c = table-level (c .args .r) (search needs) (search needs)
+returns c = uncut-zeros (c .args .r) (search needs) (search needs)
 
 pub uncut-level-spec : {M : Type 1} → statement M
-uncut-level-spec = tie.close (tie.spec sub-result array-read-result returns)
+uncut-level-spec = tie.close (tie.spec cast-result add-result returns)
