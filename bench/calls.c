@@ -1,19 +1,20 @@
 // The list call and the fit call on one file, each once by each program that is measured, and the reading call twice by
-// each: on the list that Rattle left in the arena, and on the one that C left. The words of the file are read, and the
-// file of these words is written, each once by Rattle and once by C.
+// each: on the list that Rattle left in the arena, and on the one that C left. The words of the file are read, the file
+// of these words is written, and the face's own levels are filled in, each once by Rattle and once by C.
 //
 //     calls FILE LEVELS RIB
 //
 // LEVELS is a file of one byte a size, RIB a number from 0 to 20. The opening is 64,000 by 64,000. The lists are held
-// against that of plain arrays, the layout against that of the stored lists, the words of Rattle against those of C,
-// and the files of the words against the file itself with version 2. Five numbers are printed: the items, the area, the
-// bytes of stack that Rattle's list call and its fit call touched, and the words. The instructions inside a function
-// are for callgrind to count.
+// against that of plain arrays, the layout against that of the stored lists, the words and the levels of Rattle against
+// those of C, and the files of the words against the file itself with version 2. Six numbers are printed: the items, the
+// area, the bytes of stack that Rattle's list call and its fit call touched, the words, and the sizes. The instructions
+// inside a function are for callgrind to count.
 #include <stdio.h>
 #include <stdlib.h>
 #include <string.h>
 
 #include "lazy.h"
+#include "levels.h"
 #include "lists.h"
 #include "rattle.h"
 #include "reading.h"
@@ -21,9 +22,9 @@
 #include "stored.h"
 
 enum { OPENING = 64000, PAIRS = 2 * 449, PLACES = 5 * 64 };
-enum { FACE_WORDS = 3 * 64 + 2 * 512, FILE_BYTES = 6 + 3 * 64 + 4 * 512 };
+enum { SIZES = 512, FACE_WORDS = 3 * 64 + 2 * SIZES, FILE_BYTES = 6 + 3 * 64 + 4 * SIZES };
 
-static uint8_t file_room[4096], levels_room[512];
+static uint8_t file_room[4096], levels_room[SIZES];
 static uint32_t arena_room[WORDS], scratch_room[WORDS];
 static words arena = {arena_room, WORDS}, scratch = {scratch_room, WORDS};
 
@@ -118,6 +119,15 @@ static size_t saves(bytes file) {
     return count;
 }
 
+// The buffer of the levels has a byte for each of so many sizes. It is aligned, since the instructions of memset hang on
+// that.
+static void fills(bytes file, size_t sizes) {
+    static _Alignas(64) uint8_t in_c[SIZES], rattle[SIZES];
+    hold(levels_fill(file, in_c, sizes) == 0, "the number of the levels call in C");
+    hold(rattle_fill_levels(file.bytes, file.length, rattle, sizes) == 0, "the number of Rattle's levels call");
+    hold(memcmp(rattle, in_c, sizeof in_c) == 0, "the levels by Rattle");
+}
+
 int main(int argc, char **argv) {
     if (argc != 4) return 2;
     bytes file = read_file(argv[1], file_room, sizeof file_room);
@@ -126,6 +136,7 @@ int main(int argc, char **argv) {
     uint32_t area, rib = (uint32_t)atoi(argv[3]);
     size_t list_stack = lists(file, levels, rib, &items), fit_stack = fits(file, levels, rib, &area);
     rattle_build(file.bytes, file.length, levels.bytes, levels.length, rib, arena_room, WORDS);
-    printf("%zu %u %zu %zu %zu\n", items, area, list_stack, fit_stack, saves(file));
+    fills(file, levels.length);
+    printf("%zu %u %zu %zu %zu %zu\n", items, area, list_stack, fit_stack, saves(file), levels.length);
     return 0;
 }

@@ -4,31 +4,56 @@
 
 #include "face.h"
 
+enum { MOST_SIZES = 8 };
+
 typedef struct {
     size_t at, parts, gauges, sizes;
 } cursor;
 
 static unsigned field(const uint8_t *b) { return 256u * b[0] + b[1]; }
 
-// The first size has none before it: the heights and widths that stand for it make no check fail.
-static unsigned sizes_number(const uint8_t *b, size_t count, bool order) {
-    unsigned height_before = 0xFFFF, width_before = 0;
+typedef struct {
+    unsigned height, width;
+} size;
+
+static inline size size_of(const uint8_t *b) {
+    uint32_t word = size_word(b);
+    return (size){word >> 16, word & 0xFFFF};
+}
+
+static inline bool is_limited(size z) { return z.height - 1 <= 999 && z.width - 1 <= 999; }
+
+static inline unsigned limited_number(const uint8_t *b, size_t count) {
     for (size_t i = 0; i < count; i++) {
-        uint32_t size = size_word(b + 4 * i);
-        unsigned height = size >> 16, width = size & 0xFFFF;
-        if (height - 1 > 999 || width - 1 > 999) return 8;
-        if (order && (height >= height_before || width <= width_before)) return 9;
-        height_before = height;
-        width_before = width;
+        size z = size_of(b + 4 * i);
+        if (z.height - 1 > 999 || z.width - 1 > 999) return 8;
     }
     return 0;
+}
+
+// Sizes in order lie between the first and the last, so only these two are held against the limits.
+static inline unsigned ordered_number(const uint8_t *b, size_t count) {
+    size before = size_of(b);
+    if (!is_limited(before)) return 8;
+    for (size_t i = 1; i < count; i++) {
+        size z = size_of(b + 4 * i);
+        if (z.height >= before.height || z.width <= before.width) return is_limited(before) && is_limited(z) ? 9 : 8;
+        before = z;
+    }
+    return is_limited(before) ? 0 : 8;
+}
+
+// Eight sizes are the most of a gauge: each loop over sizes is compiled for eight too, as a row of steps without a loop.
+static inline unsigned sizes_number(const uint8_t *b, size_t count, bool order) {
+    if (count == MOST_SIZES) return order ? ordered_number(b, MOST_SIZES) : limited_number(b, MOST_SIZES);
+    return order ? ordered_number(b, count) : limited_number(b, count);
 }
 
 static unsigned gauge_number(bytes file, cursor *c) {
     if (c->gauges >= 64) return 10;
     if (c->at >= file.length) return 5;
     size_t count = file.bytes[c->at];
-    if (count < 1 || count > 8) return 7;
+    if (count < 1 || count > MOST_SIZES) return 7;
     c->at++;
     if (file.length - c->at < 4 * count) return 5;
     unsigned number = sizes_number(file.bytes + c->at, count, asks_order(file));

@@ -31,4 +31,7 @@ uint32_t rattle_write_file(const uint32_t *words, size_t word_count, uint8_t *ou
 // Answers with the number of words, 0 where a check fails.
 uint32_t rattle_read_words(const uint8_t *file, size_t file_bytes, uint32_t *output, size_t output_words);
 
+// Answers with the number.
+uint32_t rattle_fill_levels(const uint8_t *file, size_t file_bytes, uint8_t *levels, size_t level_bytes);
+
 #endif

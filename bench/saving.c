@@ -1,10 +1,7 @@
-// See saving.h. Eight sizes are the most of a gauge: each loop over sizes is compiled for eight too, as a row of steps
-// without a loop.
+// See saving.h. Each loop over sizes is compiled for eight too, as in file_checks.h.
 #include "saving.h"
 
 #include "file_checks.h"
-
-enum { MOST_SIZES = 8 };
 
 typedef struct {
     const uint32_t *at, *end;

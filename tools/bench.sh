@@ -24,6 +24,8 @@ tables='own uncut ones eights scattered'
 lengths='1 16 64 128 256 448'
 ways='newer-gap newer-tie older-gap older-tie'
 read_face=row-of-64
+filled='row-of-64 pile-of-64 balanced-64 row-of-64-repeated mixed-64-repeated
+    lopsided-of-32 lopsided-of-16 lopsided-of-8'
 saved='row-of-64 mixed-64 balanced-64 mixed-64-repeated lopsided-of-8'
 rib=20
 page=docs/BENCHMARKS.md
@@ -50,8 +52,23 @@ make_library() {
     cp -R target/rlib target/stamp "$work/target"
     mkdir -p "$work/crates/rattle_calls/src"
     cp bench/rattle.rt.txt "$work/crates/rattle_calls/src/lib.rt"
-    echo 'rattle_calls: maxplus merging parts shapes placing fit saving' >>"$work/crates.txt"
+    echo 'rattle_calls: maxplus merging parts levels shapes placing fit saving' >>"$work/crates.txt"
     (cd "$work" && quietly rt staticlib rattle_calls)
+}
+
+# Links the levels call alone, without the C library.
+link_levels() {
+    mkdir -p "$work/crates/levels_alone/src"
+    cat >"$work/crates/levels_alone/src/lib.rt" <<'END'
+#[no_mangle]
+pub extern "C" fn levels_call(file: &[u8], levels: &mut [u8]) -> u32 {
+    levels::fill(file, levels)
+}
+END
+    echo 'levels_alone: levels' >>"$work/crates.txt"
+    (cd "$work" && quietly rt staticlib levels_alone)
+    gcc -nostdlib -static-pie -Wl,--gc-sections,-u,levels_call,-e,levels_call,--unresolved-symbols=ignore-all \
+        -o "$work/levels" "$work/target/staticlib/liblevels_alone.a"
 }
 
 # The kit's clang has no headers of its own: it takes those of gcc.
@@ -282,12 +299,34 @@ reading_table() {
     done
 }
 
+levels_call_table() {
+    header face sizes Rattle "${c_names[@]}"
+    for face in $filled; do
+        name=$face-own
+        read -r _ _ _ _ _ sizes <"$work/$name.printed"
+        row $face "$sizes" "$(beside_c "$(rattle rattle_fill_levels $name)" "$(inside levels_fill $name-gcc)" \
+            "$(inside levels_fill $name-clang)")"
+    done
+}
+
+# Prints the bytes of a section of the levels call that is linked alone.
+section() { # NAME
+    size -A "$work/levels" | awk -v name="$1" '$1 == name { bytes = $2 } END { print bytes + 0 }'
+}
+
+# In the program of all calls the checks of the file are a function of their own, which other calls use too.
+levels_size_table() {
+    header 'code beside the checks' 'code with the checks' constants
+    beside=$(nm -S "$work/calls-gcc" | awk '$4 == "rattle_fill_levels" { print $2 }')
+    row $((16#$beside)) "$(section .text)" "$(section .rodata)"
+}
+
 # Words to a file, and a file to words.
 saving_table() {
     header face bytes words 'write, Rattle' "${c_names[@]}" 'read, Rattle' "${c_names[@]}"
     for face in $saved; do
         name=$face-own
-        read -r _ _ _ _ words <"$work/$name.printed"
+        read -r _ _ _ _ words _ <"$work/$name.printed"
         row $face "$(wc -c <"$work/$face.fce")" "$words" \
             "$(beside_c "$(rattle rattle_write_file $name)" "$(inside saving_write $name-gcc)" \
                 "$(inside saving_write $name-clang)")" \
@@ -331,6 +370,8 @@ print_all() {
     with '## Sizes as they are printed' printed_table
     with '## With ribs' ribs_table
     with '## The reading call' reading_table
+    with '## The levels call' levels_call_table
+    with 'Linked, in bytes:' levels_size_table
     with '## Saving a face' saving_table
     with '## The program faces' process_table
     with '## Stack' stack_table
@@ -340,8 +381,9 @@ print_all() {
 
 echo 'Proving the calls and building the programs.' >&2
 make_library
+link_levels
 compile merge merge.c lazy.c plain.c useful.c
-compile calls calls.c lists.c lazy.c plain.c useful.c reading.c stored.c face.c saving.c
+compile calls calls.c lists.c lazy.c plain.c useful.c reading.c stored.c face.c saving.c levels.c
 PYTHONPATH=tools python3 -B -m making.bench_faces "$work" $faces $(growing) $printed
 profile_all
 print_all | tee "$work/tables"
