@@ -1,7 +1,7 @@
 -- What the loop over a gauge's sizes keeps where check 9 is asked: check 8 of the present size, and the sizes after it, give the number that all sizes give.
 -- Sizes in order fall in height and grow in width, so after a first size within the limits only the last can have height 0, and where one is wider than 1,000 all later ones are.
 use mathlib.Core.Path.{_≡_, refl, sym, _∙_}
-use mathlib.Core.Bool.{Bool, true, false, not, _&&_}
+use mathlib.Core.Bool.{Bool, true, false, not, _&&_, false≢true}
 use mathlib.Core.List.{List}
 use Prim.Native.Nat.{ℕ, _+_, _-_, _*_, _≤_, _<_}
 use native.Mathlib.Nat.{mul-zero, add-zero, sub-zero}
@@ -77,7 +77,7 @@ module _ {A : Type 0} (a : Answer A) where
 
   in-order : (l m : Bool) → (m ≡ true → l ≡ true) → number (ask m Limits a) ≡ number (ask l Limits (ask m Limits (ask true Order a)))
   in-order true m h = refl
-  in-order false true h = absurd (let z : _≡_ {A = ℕ} 0 1 = let e = h refl in cc in omega arith)
+  in-order false true h = absurd (false≢true (h refl))
   in-order false false h = refl
 
 -- A later size z after the size y, where the test of their order is o.
