@@ -6,9 +6,9 @@
 //
 // LEVELS is a file of one byte a size, RIB a number from 0 to 20. The opening is 64,000 by 64,000. The lists are held
 // against that of plain arrays, the layout against that of the stored lists, the words and the levels of Rattle against
-// those of C, and the files of the words against the file itself with version 2. Six numbers are printed: the items, the
-// area, the bytes of stack that Rattle's list call and its fit call touched, the words, and the sizes. The instructions
-// inside a function are for callgrind to count.
+// those of C, and the files of the words against the file itself with version 2. Six numbers are printed: the items,
+// the area, the bytes of stack that Rattle's list call and its fit call touched, the words, and the sizes. The
+// instructions inside a function are for callgrind to count.
 #include <stdio.h>
 #include <stdlib.h>
 #include <string.h>
@@ -119,8 +119,8 @@ static size_t saves(bytes file) {
     return count;
 }
 
-// The buffer of the levels has a byte for each of so many sizes. It is aligned, since the instructions of memset hang on
-// that.
+// The buffer of the levels has a byte for each of so many sizes. It is aligned, since the instructions of memset hang
+// on that.
 static void fills(bytes file, size_t sizes) {
     static _Alignas(64) uint8_t in_c[SIZES], rattle[SIZES];
     hold(levels_fill(file, in_c, sizes) == 0, "the number of the levels call in C");

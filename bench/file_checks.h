@@ -23,6 +23,7 @@ static inline size size_of(const uint8_t *b) {
 
 static inline bool is_limited(size z) { return z.height - 1 <= 999 && z.width - 1 <= 999; }
 
+// The test of is_limited is written out, since the compilers then take fewer instructions.
 static inline unsigned limited_number(const uint8_t *b, size_t count) {
     for (size_t i = 0; i < count; i++) {
         size z = size_of(b + 4 * i);
@@ -43,7 +44,8 @@ static inline unsigned ordered_number(const uint8_t *b, size_t count) {
     return is_limited(before) ? 0 : 8;
 }
 
-// Eight sizes are the most of a gauge: each loop over sizes is compiled for eight too, as a row of steps without a loop.
+// Eight sizes are the most of a gauge: each loop over sizes is compiled for eight too, as a row of steps without a
+// loop.
 static inline unsigned sizes_number(const uint8_t *b, size_t count, bool order) {
     if (count == MOST_SIZES) return order ? ordered_number(b, MOST_SIZES) : limited_number(b, MOST_SIZES);
     return order ? ordered_number(b, count) : limited_number(b, count);

@@ -10,8 +10,9 @@ typedef struct {
 } depths;
 
 static inline depths joined(depths older, depths newer) {
-    depths d = {older.least < newer.least ? older.least : newer.least, older.most > newer.most ? older.most : newer.most};
-    return (depths){(uint8_t)(d.least + 1), (uint8_t)(d.most + 1)};
+    uint8_t least = older.least < newer.least ? older.least : newer.least;
+    uint8_t most = older.most > newer.most ? older.most : newer.most;
+    return (depths){(uint8_t)(least + 1), (uint8_t)(most + 1)};
 }
 
 // The least and the largest number of joins above a gauge of a file that is taken.

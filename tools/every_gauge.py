@@ -1,12 +1,12 @@
 #!/usr/bin/env python3
-"""Runs the reader on every lone gauge of a few sizes at the ends of their limits through target/bin/cases, and compares what
-it answers with document 01.
+"""Runs the reader on every lone gauge of a few sizes at the ends of their limits through target/bin/cases, and compares
+what it answers with document 01.
 
     python3 tools/every_gauge.py
 
 The gauges have one to three sizes, of every height and width of LENGTHS, in files of both versions; and four sizes, of
-fewer lengths, in files of version 1. So each order of checks 8 and 9 over a gauge comes up. It exits 1 if any answer differs
-from the model's.
+fewer lengths, in files of version 1. So each order of checks 8 and 9 over a gauge comes up. It exits 1 if any answer
+differs from the model's.
 """
 
 import itertools
