@@ -4,7 +4,7 @@ use mathlib.Core.Path.{_≡_, refl, sym, ap, _∙_}
 use mathlib.Core.Bool.{Bool, true, false}
 use Prim.Native.Nat.{ℕ, zero, suc, _≤_}
 use native.Mathlib.Omega.{arith}
-use Rattle.checks.specs.Check.{Check, Length, Mark, Version, Entries, Present, Kind, SizeCount, Limits, Order, Gauges, Join, OnePart, AtEnd, LevelCount, LevelRange, Opening, Buffers, Output, Fits, LazyList, Place, Rib, numberOf}
+use Rattle.checks.specs.Check.{Check, Length, Mark, Version, Entries, Present, Kind, SizeCount, Limits, Order, Gauges, Join, OnePart, AtEnd, LevelCount, LevelRange, Opening, Buffers, Output, Fits, LazyList, Place, Rib, Heights, numberOf}
 use Rattle.checks.specs.Answer.{Answer, refused, taken, ask, next, Asked, also, number, firstNo}
 
 -- No check has the number of a taken call.
@@ -31,6 +31,7 @@ number-positive Fits = omega arith
 number-positive LazyList = omega arith
 number-positive Place = omega arith
 number-positive Rib = omega arith
+number-positive Heights = omega arith
 
 module _ {A : Type 0} where
   pub not-both : (c : Check) (x : A) → _≡_ {A = Answer A} (refused c) (taken x) → ⊥

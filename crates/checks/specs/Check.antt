@@ -46,6 +46,8 @@ pub data Check : Type 0 where
   Place : Check
   -- Rib at most 20?
   Rib : Check
+  -- At most 256 heights, each 1 or more and no more than the one before?
+  Heights : Check
 
 -- The number that a "no" answers with.
 abbrev pub numberOf : Check → ℕ
@@ -71,3 +73,4 @@ numberOf Fits = 19
 numberOf LazyList = 20
 numberOf Place = 21
 numberOf Rib = 22
+numberOf Heights = 23

@@ -20,3 +20,7 @@ mostOpening = 65_260
 -- "Arena and scratch, each 16,384 32-bit words or more?"
 abbrev pub bufferWords : ℕ
 bufferWords = 16_384
+
+-- Document 02, Paper 5: "up to 256 opening heights".
+abbrev pub mostHeights : ℕ
+mostHeights = 256

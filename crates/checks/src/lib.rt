@@ -57,6 +57,9 @@ pub const PLACE: u32 = 21;
 // Of the rib.
 pub const RIB: u32 = 22;
 
+// Of the heights of a catalogue.
+pub const HEIGHTS: u32 = 23;
+
 // Of the numbers of two runs of questions, the second of which is asked where the first answers 0: the first "no" wins.
 pub fn first_no(first: u32, later: u32) -> u32
     ensures { λ r. ⌜ r ≡ firstNo first later ⌝ }

@@ -14,3 +14,6 @@ pub const OPENING: u32 = 65_260;
 
 // The words of an arena and of a scratch.
 pub const WORDS: usize = 16_384;
+
+// The heights of a catalogue.
+pub const HEIGHTS: usize = 256;
