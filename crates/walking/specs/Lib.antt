@@ -1,0 +1,4 @@
+pub mod Widths
+pub mod Walk
+pub mod WidthMeans
+pub mod inside
