@@ -1,0 +1,3 @@
+pub mod HeightLaws
+pub mod WidthCall
+pub mod CatalogueMeans

@@ -1,0 +1,3 @@
+pub mod Heights
+pub mod Catalogue
+pub mod CatalogueMeans
