@@ -31,6 +31,10 @@ use Rattle.placing.specs.declared.Fitted.{Fitted}
 use Rattle.placing.specs.Found.{noFace}
 use Rattle.shapes.specs.Listing.{listAsks}
 use Rattle.fit.specs.Fitting.{fitAsks, fitted, fitOutput}
+use Rattle.walking.specs.Widths.{widthFor}
+use Rattle.walking.specs.Walk.{seek, walked}
+use Rattle.catalogue.specs.Heights.{heightsGiven}
+use Rattle.catalogue.specs.Catalogue.{widthAsks, catalogued, widthOutput}
 use Rattle.written.specs.FileOf.{fileOf}
 use Rattle.facewords.specs.Words.{firstWord, wordsFace, wordsOf}
 use Rattle.saving.specs.Saving.{saveCall, savedOutput, wordCall, wordOutput}
@@ -46,6 +50,10 @@ pub data Row : Type 0 where
   saves : List ℕ → ℕ → ℕ → List ℕ → Row
   -- A file, and how many words are lent to read it into: the reading call's number, and its output.
   words : List ℕ → ℕ → ℕ → List ℕ → Row
+  -- A file's face, with a rib, heights, and how many words are lent for their widths: the walk's looks, and the output.
+  widths : List ℕ → ℕ → List ℕ → ℕ → ℕ → List ℕ → Row
+  -- Heights, and how many words are lent for their widths: the number of the catalogue call's questions.
+  heights : List ℕ → ℕ → ℕ → Row
   -- A file of a lopsided tree of n sizes, and its top level.
   tops : List ℕ → ℕ → ℕ → Row
   -- A size number and its uncut level.
@@ -103,6 +111,9 @@ holds (saves given room n output) =
 holds (words file room n output) =
     eqb (number (wordCall (faceOf file) (lentRoom room))) n
     && same (wordOutput (wordCall (faceOf file) (lentRoom room)) (lentRoom room)) output
+holds (widths file rib given room looks output) =
+    eqb (catalogued (faceOf file) rib given .looks) looks && same (widthOutput (faceOf file) rib given (lentRoom room)) output
+holds (heights given room n) = eqb (number (widthAsks 4 ones 0 given bufferWords bufferWords room)) n
 holds (tops file n level) = outcome (faceOf file) false (topHolds n level)
 holds (uncuts r level) = eqb (uncutLevel r) level
 holds (reads p adjust true-p) = readHolds true-p (reading (readItem (under p adjust) 1))
@@ -258,6 +269,20 @@ rows =
     ∷ words example 13 18 (lentRoom 13)
     ∷ words (lopsided 8 63) 1_216 0 (lopsidedWords 8 63)
     ∷ words (lopsided 8 63) 1_215 18 (lentRoom 1_215)
+    ∷ widths example 0 (60 ∷ 60 ∷ 59 ∷ []) 4 4 (70 ∷ 70 ∷ 90 ∷ 7 ∷ [])
+    ∷ widths example 0 (61 ∷ 51 ∷ 50 ∷ 49 ∷ 41 ∷ 40 ∷ 39 ∷ 39 ∷ []) 8 9 (70 ∷ 90 ∷ 90 ∷ 110 ∷ 110 ∷ 110 ∷ 0 ∷ 0 ∷ [])
+    ∷ widths example 0 (39 ∷ 39 ∷ []) 2 3 (0 ∷ 0 ∷ [])
+    ∷ widths example 0 [] 2 0 (7 ∷ 7 ∷ [])
+    ∷ widths stackedInstead 0 (4_294_967_295 ∷ 100 ∷ 70 ∷ 69 ∷ []) 5 6 (40 ∷ 50 ∷ 60 ∷ 0 ∷ 7 ∷ [])
+    ∷ widths example 5 (55 ∷ 40 ∷ []) 2 4 (95 ∷ 115 ∷ [])
+    ∷ widths printedPair 0 (50 ∷ []) 1 2 (80 ∷ [])
+    ∷ heights [] 0 0
+    ∷ heights (4_294_967_295 ∷ 1 ∷ []) 2 0
+    ∷ heights (replicate 256 1) 256 0
+    ∷ heights (replicate 257 1) 257 23
+    ∷ heights (60 ∷ 60 ∷ []) 1 18
+    ∷ heights (60 ∷ 61 ∷ []) 1 23
+    ∷ heights (60 ∷ 0 ∷ []) 1 23
     ∷ tops (lopsided 7 15) 127 1
     ∷ tops (lopsided 8 15) 128 2
     ∷ tops (lopsided 7 63) 511 2
@@ -268,5 +293,5 @@ rows =
     ∷ []
 
 pub rows-hold : all holds rows ≡ true
-unfolding saveCall wordCall firstWord wordsFace wordsOf fileOf levelCount levelRange levelsLent ribGiven openingGiven buffersLent outputLent listAsks fitAsks header sizesAfter sizesFrom gaugeSizes gaugeEntry joinParts joinEntry kindEntry entry entries onePart atEnd faceOf merge turn gaugeShapes shapes smallest noTaller indexOf place listWords writtenOver timesFour uncutLevel largestPower topLevel word nextWith lastWith sumFrom trueP held walk linksRight linked falling lazyList readItem
+unfolding widthFor seek walked heightsGiven widthAsks saveCall wordCall firstWord wordsFace wordsOf fileOf levelCount levelRange levelsLent ribGiven openingGiven buffersLent outputLent listAsks fitAsks header sizesAfter sizesFrom gaugeSizes gaugeEntry joinParts joinEntry kindEntry entry entries onePart atEnd faceOf merge turn gaugeShapes shapes smallest noTaller indexOf place listWords writtenOver timesFour uncutLevel largestPower topLevel word nextWith lastWith sumFrom trueP held walk linksRight linked falling lazyList readItem
 rows-hold = refl
