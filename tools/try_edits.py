@@ -3,9 +3,9 @@
 
     python3 tools/try_edits.py [CRATE/NAME...]
 
-The gate has the prover refuse each of them. Here each that edits code is compiled into the program `cases` without a proof
-(`rt try`), which is run on its stored cases. It exits 1 where a wrong program writes what it should: then a stored case is
-missing.
+The gate has the prover refuse each of them. Here each that edits code is compiled without a proof (`rt try`) into the
+program `cases`, or `cases_heights` where it is of the catalogue call, which is run on its stored cases; and into the
+other one where that writes what it should. It exits 1 where both do: then a stored case is missing.
 """
 
 import pathlib
@@ -15,7 +15,8 @@ import sys
 import tempfile
 
 ROOT = pathlib.Path(__file__).resolve().parent.parent
-PROGRAM = "cases"
+PROGRAMS = ["cases", "cases_heights"]
+OF_HEIGHTS = ["walking", "catalogue"]
 RIGHT = "ok: the native program at -O3 ended and wrote what is expected"
 
 
@@ -36,9 +37,9 @@ def applied(text, changes):
     return text
 
 
-def is_right(folder):
-    """Whether the program, compiled without a proof, writes what is stored."""
-    done = subprocess.run(["rt", "try", PROGRAM], cwd=folder, capture_output=True, text=True, timeout=300)
+def is_right(folder, program):
+    """Whether a program, compiled without a proof, writes what is stored."""
+    done = subprocess.run(["rt", "try", program], cwd=folder, capture_output=True, text=True, timeout=300)
     return RIGHT in done.stdout
 
 
@@ -48,7 +49,8 @@ def is_seen(folder, crate, edit):
     file = folder / "crates" / crate / name
     right = file.read_text()
     file.write_text(applied(right, changes))
-    seen = not is_right(folder)
+    programs = PROGRAMS[::-1] if crate in OF_HEIGHTS else PROGRAMS
+    seen = not all(is_right(folder, program) for program in programs)
     file.write_text(right)
     return seen
 
@@ -59,8 +61,9 @@ def main():
     with tempfile.TemporaryDirectory() as temporary:
         folder = pathlib.Path(temporary) / "repository"
         shutil.copytree(ROOT, folder, ignore=shutil.ignore_patterns("target", ".git"))
-        if not is_right(folder):
-            sys.exit(f"without any edit {PROGRAM} writes something else than is stored")
+        wrong = [program for program in PROGRAMS if not is_right(folder, program)]
+        if wrong:
+            sys.exit(f"without any edit {' and '.join(wrong)} write something else than is stored")
         for edit in sorted((ROOT / "crates").glob("*/must-fail/*.edit")):
             crate = edit.parent.parent.name
             label = f"{crate}/{edit.stem}"

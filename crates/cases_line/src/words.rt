@@ -1,4 +1,4 @@
-// The words of an arena that a case replaces.
+// The words of a buffer that a case replaces.
 ghost use Prim.Native.Nat.{_≤_};
 ghost use lib.ListN.{length};
 use crate::number::number_at;
@@ -11,13 +11,13 @@ fn set(words: &mut [u32], at: usize, value: u32) {
     }
 }
 
-// The place after a word, and past every arena the same place.
+// The place after a word, and past every buffer the same place.
 fn next_place(at: usize) -> usize {
     if at < 20_000 { at + 1 } else { 20_000 }
 }
 
-// Replaces the words of an arena that a text names from a place on.
-pub fn replace_words(text: &[u8], start: usize, arena: &mut [u32])
+// Replaces the words that a text names from a place on.
+pub fn replace_words(text: &[u8], start: usize, words: &mut [u32])
     requires { ⌜ start ≤ length (now text) ⌝ }
 {
     let mut at = start;
@@ -28,7 +28,7 @@ pub fn replace_words(text: &[u8], start: usize, arena: &mut [u32])
         if sign == b'@' {
             place = at_most(number.value, 20_000);
         } else if sign == b' ' {
-            set(arena, place, number.value);
+            set(words, place, number.value);
             place = next_place(place);
         }
         at = number.end;

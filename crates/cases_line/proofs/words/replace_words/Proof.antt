@@ -1,4 +1,4 @@
--- `cases_line::words::replace_words` is safe and ends. `at` stays within the text, and the arena keeps its length; the
+-- `cases_line::words::replace_words` is safe and ends. `at` stays within the text, and the buffer keeps its length; the
 -- measure is how far `at` is from the length. Assumes nothing.
 use mathlib.Core.Path.{_≡_}
 use Prim.Native.Nat.{_-_, _≤_}
@@ -8,10 +8,10 @@ use Rattle.cases_line.proofs.words.replace_words.Statement.{statement}
 use Rattle.cases_line.proofs.words.replace_words.Tie as tie
 
 abbrev Inv-loop : tie.InvT-loop
-Inv-loop text start arena₀ at₀ place₀ arena at place = (at ≤ length text) × (length arena ≡ length arena₀)
+Inv-loop text start words₀ at₀ place₀ words at place = (at ≤ length text) × (length words ≡ length words₀)
 
 abbrev μ-loop : tie.MeasureT-loop
-μ-loop text start arena₀ at₀ place₀ arena at place = length text - at
+μ-loop text start words₀ at₀ place₀ words at place = length text - at
 
 loop-holds : tie.Need-loop-holds Inv-loop μ-loop
 loop-holds c = search needs

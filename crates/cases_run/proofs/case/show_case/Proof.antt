@@ -1,10 +1,10 @@
--- `cases::case::show_case` is safe: each part that it lends is no longer than what it is a part of. Assumes nothing.
+-- `cases_run::case::show_case` is safe: each part that it lends is no longer than what it is a part of. Assumes nothing.
 use native.Mathlib.Omega.{arith}
 use mathlib.Core.Path.{sym}
 use lib.Seq.{length-take-le}
 use borrow.Author.Needs.{needs}
-use Rattle.cases.proofs.case.show_case.Statement.{statement}
-use Rattle.cases.proofs.case.show_case.Tie as tie
+use Rattle.cases_run.proofs.case.show_case.Statement.{statement}
+use Rattle.cases_run.proofs.case.show_case.Tie as tie
 
 put-name-requires : tie.Need-put-name-requires
 put-name-requires c κs = search needs

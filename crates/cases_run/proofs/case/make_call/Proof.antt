@@ -1,10 +1,10 @@
--- `cases::case::make_call` is safe: each part that it lends is no longer than what it is a part of. Assumes nothing.
+-- `cases_run::case::make_call` is safe: each part that it lends is no longer than what it is a part of. Assumes nothing.
 use native.Mathlib.Omega.{arith}
 use mathlib.Core.Path.{sym}
 use lib.Seq.{length-take-le}
 use borrow.Author.Needs.{needs}
-use Rattle.cases.proofs.case.make_call.Statement.{statement}
-use Rattle.cases.proofs.case.make_call.Tie as tie
+use Rattle.cases_run.proofs.case.make_call.Statement.{statement}
+use Rattle.cases_run.proofs.case.make_call.Tie as tie
 
 levels-room-requires : tie.Need-levels-room-requires
 levels-room-requires c κs = search needs

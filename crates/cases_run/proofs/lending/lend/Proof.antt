@@ -1,10 +1,10 @@
--- `cases::lending::lend` is safe: each part that it lends is no longer than what it is a part of. Assumes nothing.
+-- `cases_run::lending::lend` is safe: each part that it lends is no longer than what it is a part of. Assumes nothing.
 use native.Mathlib.Omega.{arith}
 use mathlib.Core.Path.{sym}
 use lib.Seq.{length-take-le}
 use borrow.Author.Needs.{needs}
-use Rattle.cases.proofs.lending.lend.Statement.{statement}
-use Rattle.cases.proofs.lending.lend.Tie as tie
+use Rattle.cases_run.proofs.lending.lend.Statement.{statement}
+use Rattle.cases_run.proofs.lending.lend.Tie as tie
 
 words-room-requires : tie.Need-words-room-requires
 words-room-requires c κs = search needs

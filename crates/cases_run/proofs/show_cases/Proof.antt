@@ -1,11 +1,11 @@
--- `cases::show_cases` is safe and ends. The room for a file keeps its length, and the measure is how many cases are
+-- `cases_run::show_cases` is safe and ends. The room for a file keeps its length, and the measure is how many cases are
 -- left. Assumes nothing.
 use mathlib.Core.Path.{_≡_}
 use Prim.Native.Nat.{_-_}
 use lib.ListN.{length}
 use borrow.Author.Needs.{needs}
-use Rattle.cases.proofs.show_cases.Statement.{statement}
-use Rattle.cases.proofs.show_cases.Tie as tie
+use Rattle.cases_run.proofs.show_cases.Statement.{statement}
+use Rattle.cases_run.proofs.show_cases.Tie as tie
 
 abbrev Inv-loop : tie.InvT-loop
 Inv-loop file₀ bytes₀ done₀ file bytes done = length file ≡ length file₀

@@ -1,4 +1,7 @@
 // The calls that are lent an arena, a scratch and an output.
+ghost use Prim.Native.Nat.{_≤_};
+ghost use lib.ListN.{length};
+use crate::cataloguing::call_widths;
 use crate::fitting::call_fit;
 use cases_line::number::Numbers;
 use cases_listing::call_list;
@@ -9,18 +12,23 @@ use cases_shown::rooms::at_most;
 use cases_shown::rooms::output_room;
 use cases_shown::rooms::words_room;
 
-// The list call, or the fit call where the letter is another.
+// The list call, the catalogue call, or the fit call where the letter is another.
 fn call_lent(
     letter: u8,
+    text: &[u8],
     file: &[u8],
     levels: &[u8],
     numbers: Numbers,
     arena: &mut [u32],
     scratch: &mut [u32],
     output: &mut [u32],
-) {
+)
+    requires { ⌜ numbers .end ≤ length (now text) ⌝ }
+{
     if letter == b'l' {
         call_list(file, levels, numbers.rib, arena, scratch, output);
+    } else if letter == b'c' {
+        call_widths(text, file, levels, numbers, arena, scratch, output);
     } else {
         call_fit(
             file,
@@ -36,7 +44,9 @@ fn call_lent(
 }
 
 // Makes it with so many words of each buffer as the numbers say.
-pub fn lend(letter: u8, file: &[u8], levels: &[u8], numbers: Numbers) {
+pub fn lend(letter: u8, text: &[u8], file: &[u8], levels: &[u8], numbers: Numbers)
+    requires { ⌜ numbers .end ≤ length (now text) ⌝ }
+{
     let mut arena = words_room(UNTOUCHED);
     let mut scratch = words_room(UNTOUCHED);
     let mut output = output_room();
@@ -45,6 +55,7 @@ pub fn lend(letter: u8, file: &[u8], levels: &[u8], numbers: Numbers) {
     let output_words = at_most(numbers.output, OUTPUT);
     call_lent(
         letter,
+        text,
         file,
         levels,
         numbers,

@@ -1,10 +1,10 @@
--- `cases::calls::call_text` is safe: each part that it lends is no longer than what it is a part of. Assumes nothing.
+-- `cases_run::calls::call_text` is safe: each part that it lends is no longer than what it is a part of. Assumes nothing.
 use native.Mathlib.Omega.{arith}
 use mathlib.Core.Path.{sym}
 use lib.Seq.{length-take-le}
 use borrow.Author.Needs.{needs}
-use Rattle.cases.proofs.calls.call_text.Statement.{statement}
-use Rattle.cases.proofs.calls.call_text.Tie as tie
+use Rattle.cases_run.proofs.calls.call_text.Statement.{statement}
+use Rattle.cases_run.proofs.calls.call_text.Tie as tie
 
 text-room-requires : tie.Need-text-room-requires
 text-room-requires c κs = search needs

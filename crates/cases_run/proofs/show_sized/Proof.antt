@@ -1,10 +1,10 @@
--- `cases::show_sized` is safe: each part that it lends is no longer than what it is a part of. Assumes nothing.
+-- `cases_run::show_sized` is safe: each part that it lends is no longer than what it is a part of. Assumes nothing.
 use native.Mathlib.Omega.{arith}
 use mathlib.Core.Path.{sym}
 use lib.Seq.{length-take-le}
 use borrow.Author.Needs.{needs}
-use Rattle.cases.proofs.show_sized.Statement.{statement}
-use Rattle.cases.proofs.show_sized.Tie as tie
+use Rattle.cases_run.proofs.show_sized.Statement.{statement}
+use Rattle.cases_run.proofs.show_sized.Tie as tie
 
 large-buffer-requires : tie.Need-large-buffer-requires
 large-buffer-requires c κs = search needs

@@ -50,8 +50,8 @@ fn call_saving(letter: u8, file: &[u8], output: u32) {
 fn call_arena(letter: u8, text: &[u8], file: &[u8], levels: &[u8], numbers: Numbers)
     requires { ⌜ numbers .end ≤ length (now text) ⌝ }
 {
-    if letter == b'l' || letter == b'f' {
-        lend(letter, file, levels, numbers);
+    if letter == b'l' || letter == b'f' || letter == b'c' {
+        lend(letter, text, file, levels, numbers);
     } else if letter == b'r' {
         call_read(text, file, levels, numbers);
     } else {
