@@ -4,9 +4,9 @@
     python3 tools/fuzz_faces.py --files 100000 --seed 1
 
 Each file goes to target/bin/faces, one process a file, and three times to target/bin/cases, one process for many files:
-the reader, the text of `faces`, and the list, fit, levels or gauge-bytes call, the reading of the file to words, or the same
-and the words written again, drawn at random. It prints how many ran and how many differ, and exits 1 on any difference,
-crash or hang.
+the reader, the text of `faces`, and the list, fit, catalogue, levels or gauge-bytes call, the reading of the file to
+words, or the same and the words written again, drawn at random. It prints how many ran and how many differ, and exits 1
+on any difference, crash or hang.
 """
 
 import argparse
@@ -36,8 +36,8 @@ SIDE_BY_SIDE = 2
 # Of so many faces the damaged files are made; a face is changed for another after some use.
 FACES = 200
 
-CALLS = [random_cases.some_list, random_cases.some_fit, random_cases.some_fill, random_cases.some_gauge]
-CALLS += [random_cases.some_words, random_cases.some_again]
+CALLS = [random_cases.some_list, random_cases.some_fit, random_cases.some_widths, random_cases.some_fill]
+CALLS += [random_cases.some_gauge, random_cases.some_words, random_cases.some_again]
 
 
 # ---------------------------------------------------------------------------------------------------------------

@@ -1,6 +1,6 @@
 #!/usr/bin/env python3
-"""Writes what the gate runs the programs on, and what they must print: of crates/cases the stored cases of every call, each
-with its name; of crates/faces and crates/faces_long some faces.
+"""Writes what the gate runs the programs on, and what they must print: of crates/cases and crates/cases_heights the
+stored cases of every call, each with its name; of crates/faces and crates/faces_long some faces.
 
     python3 tools/make_cases.py            writes them
     python3 tools/make_cases.py --check    writes nothing, and says whether they are as it would write them
@@ -9,8 +9,9 @@ tools/making/ has the files: for the reader and the levels (face_files.py), the 
 (fit_files.py), the text of `faces` (text_files.py), all of these in version 2 (printed_files.py), and the list and fit calls
 with ribs (rib_files.py); the calls that are made on each file (calls.py, with ribs rib_calls.py); the arenas of the reading
 call (arenas.py); the words of the writing call (word_files.py), with the calls between words and files (word_calls.py);
-pseudo-random cases (random_cases.py); and what `faces` is run on (faces_inputs.py). What is expected comes from the models.
-It stops where they and an answer that was worked out by hand differ.
+the heights of the catalogue call (height_files.py), with the calls on them (height_calls.py); pseudo-random cases
+(random_cases.py); and what `faces` is run on (faces_inputs.py). What is expected comes from the models. It stops where
+they and an answer that was worked out by hand differ.
 """
 
 import collections
@@ -19,14 +20,15 @@ import sys
 
 sys.dont_write_bytecode = True
 
-from making import arenas, calls, face_files, faces_inputs, fit_files, list_files, printed_files, random_cases
-from making import rib_calls, rib_files, text_files, word_calls, word_files
+from making import arenas, calls, face_files, faces_inputs, fit_files, height_calls, height_files, list_files
+from making import printed_files, random_cases, rib_calls, rib_files, text_files, word_calls, word_files
 
 CRATES = pathlib.Path(__file__).resolve().parent.parent / "crates"
 SETS = [face_files, list_files, fit_files, text_files, printed_files, rib_files]
 
-# How many pseudo-random cases are stored, and where their row starts.
+# How many pseudo-random cases are stored, those of the catalogue call too, and where a row of them starts.
 RANDOM = 270
+RANDOM_HEIGHTS = 300
 SEED = 7
 
 # The most bytes of output that `rt try` takes, which tools/try_edits.py runs.
@@ -34,7 +36,7 @@ MOST = 1_048_576
 
 
 def faults():
-    return [fault for module in SETS + [arenas, word_files] for fault in module.faults()]
+    return [fault for module in SETS + [arenas, word_files, height_files] for fault in module.faults()]
 
 
 def names():
@@ -72,7 +74,13 @@ def file_cases():
 
 
 def all_cases():
-    return file_cases() + arenas.cases() + word_calls.cases() + random_cases.stored(RANDOM, SEED)
+    """The cases of each program that runs some, by its crate."""
+    by_chance = random_cases.stored(RANDOM, SEED, random_cases.OF_CASES)
+    heights_by_chance = random_cases.stored(RANDOM_HEIGHTS, SEED, random_cases.OF_HEIGHTS)
+    return {
+        "cases": file_cases() + arenas.cases() + word_calls.cases() + by_chance,
+        "cases_heights": height_calls.cases() + heights_by_chance,
+    }
 
 
 def stop_at(faults):
@@ -80,12 +88,14 @@ def stop_at(faults):
         sys.exit("\n".join(faults))
 
 
-def case_files(cases):
-    """The input and the output of the program `cases`, by their paths below crates/."""
+def case_files(crate, cases):
+    """The input and the output of a program that runs cases, by their paths below crates/."""
+    found = collections.Counter(case.name for case in cases)
+    stop_at([f"{name}: two cases of {crate} have this name" for name, times in found.items() if times > 1])
     output = "".join(case.answer() for case in cases).encode()
     if len(output) > MOST:
-        sys.exit(f"the output has more than {MOST} bytes")
-    return {"cases/stdin": "".join(case.line() for case in cases).encode(), "cases/stdout": output}
+        sys.exit(f"the output of {crate} has more than {MOST} bytes")
+    return {f"{crate}/stdin": "".join(case.line() for case in cases).encode(), f"{crate}/stdout": output}
 
 
 def has(path, content):
@@ -94,11 +104,10 @@ def has(path, content):
 
 def main():
     stop_at(faults())
-    cases = all_cases()
-    found = collections.Counter(case.name for case in cases)
-    stop_at([f"{name}: two cases have this name" for name, times in found.items() if times > 1])
-    stored = {CRATES / path: content for path, content in (case_files(cases) | faces_inputs.files()).items()}
-    what = f"{len(cases)} cases on {len(names())} files"
+    made = all_cases()
+    written = [case_files(crate, cases) for crate, cases in made.items()] + [faces_inputs.files()]
+    stored = {CRATES / path: content for files in written for path, content in files.items()}
+    what = ", ".join(f"{len(cases)} cases of {crate}" for crate, cases in made.items())
     if "--check" in sys.argv[1:]:
         stop_at([f"{path}: not as this script writes it" for path, content in stored.items() if not has(path, content)])
         print(f"{what}: stored as this script writes them")

@@ -1,5 +1,5 @@
 #!/usr/bin/env python3
-"""Runs pseudo-random cases of every call through target/bin/cases, and compares all that it prints with document 01.
+"""Runs pseudo-random cases of every call through target/bin/cases, and compares all that it prints with the documents.
 
     python3 tools/run_cases.py --cases 5000 --seed 1    runs them, and exits 1 if any answer differs
     python3 tools/run_cases.py --cases 5000 --call save    the same of one call alone
@@ -47,7 +47,7 @@ def arenas(rng, program, count):
 def run_call(program, count, seed, call):
     """Cases of one call."""
     rng = random.Random(seed)
-    return run(program, [case for i in range(count) for case in random_cases.made(rng, str(i), call)], count)
+    return run(program, [case for i in range(count) for case in random_cases.made(rng, str(i), [call])], count)
 
 
 def run_all(program, count, seed):

@@ -1,10 +1,10 @@
-"""A case of the program `cases`: what it is given, and what it is to print, by the models. crates/cases/src/main.rt has the
-form of both."""
+"""A case of the program `cases`: what it is given, and what it is to print, by the models. crates/cases_run/src/lib.rt
+has the form of both."""
 
 import dataclasses
 import itertools
 
-from models import face_model, fit_model, list_model, read_model, text_model, words_model
+from models import catalogue_model, face_model, fit_model, list_model, read_model, text_model, words_model
 
 # The rooms that the program has for a case, an arena or a scratch, an output and a text; and the least of a text that the
 # call takes.
@@ -142,6 +142,19 @@ def fit_case(name, file, levels, rib, height, width, arena, scratch, output):
     return Case(name, given("f", levels, height, width, arena, scratch, output, rib), wanted)
 
 
+def widths_case(name, file, levels, rib, heights, arena, scratch, output):
+    """The catalogue call. Each height is the first one, but for those that the case replaces."""
+    found = catalogue_model.width_call(file, levels, rib, heights, arena, scratch, output)
+    answer = f"widths {found.number} {found.looks}"
+    if found.number == 0:
+        wanted = lines(answer, output_line(found.widths), list_line(found.walked))
+    else:
+        wanted = lines(answer, ALL_KEPT)
+    first = heights[0] if heights else 0
+    others = replaced({place: height for place, height in enumerate(heights) if height != first})
+    return Case(name, given("c", levels, len(heights), first, arena, scratch, output, rib, after=others), wanted)
+
+
 def text_case(name, file, room):
     """The text of `faces`, in a buffer of so many bytes."""
     text = text_model.text_of(file) if room >= TEXT_LEAST else ""
@@ -189,7 +202,7 @@ def again_case(name, file):
 
 
 def replaced(words):
-    """The words that a case puts into an arena, by their places."""
+    """The words that a case puts into a buffer, by their places."""
     found = ""
     expected = None
     for place in sorted(words):

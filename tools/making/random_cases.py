@@ -2,9 +2,9 @@
 
 import random
 
-from making import random_faces, random_words
+from making import random_faces, random_heights, random_words
 from making.case import FACE_BYTES, FACE_WORDS, OUTPUT, TEXT, TEXT_LEAST, again_case, file_case, fit_case, gauge_case
-from making.case import levels_case, list_case, saved_case, text_case, word_bytes, worded_case
+from making.case import levels_case, list_case, saved_case, text_case, widths_case, word_bytes, worded_case
 from making.random_arenas import make_read, some_rib
 from models import face_model, fit_model, list_model, words_model
 
@@ -91,6 +91,17 @@ def some_fit(rng, name, file):
     return fit_case(name, file, levels, rib, height, width, words_lent(rng), words_lent(rng), output)
 
 
+def some_widths(rng, name, file):
+    """The catalogue call. Of a file or a rib that is refused the heights are near any."""
+    _, sizes = counts(file)
+    levels, rib = some_levels(rng, file, sizes), some_rib(rng)
+    taken = face_model.number_of(file) == 0 and rib <= list_model.RIB
+    own = [item.height for item in list_model.outer_sizes(file, rib)] if taken else [60, 50, 40]
+    heights = random_heights.some_heights(rng, own)
+    output = output_lent(rng, len(heights), OUTPUT)
+    return widths_case(name, file, levels, rib, heights, words_lent(rng), words_lent(rng), output)
+
+
 def some_fill(rng, name, file):
     _, sizes = counts(file)
     length = rng.choice([sizes] * 6 + [sizes + 1, max(0, sizes - 1), 0])
@@ -131,6 +142,11 @@ def make_list(rng, name):
 def make_fit(rng, name):
     file = random_faces.any_file(rng, 0.9)
     return [file_case(name, file), some_fit(rng, f"{name}, call", file)]
+
+
+def make_widths(rng, name):
+    file = random_faces.any_file(rng, 0.9)
+    return [file_case(name, file), some_widths(rng, f"{name}, call", file)]
 
 
 def make_levels(rng, name):
@@ -179,15 +195,20 @@ MAKERS = {
     "save": (make_saved, 4),
     "words": (make_words, 2),
     "again": (make_again, 1),
+    "widths": (make_widths, 5),
 }
 
-
-def made(rng, name, call=None):
-    """A file and a call on it: this one, or one that is drawn."""
-    drawn = [maker for maker, times in MAKERS.values() for _ in range(times)]
-    return (MAKERS[call][0] if call else rng.choice(drawn))(rng, name)
+# The calls that are stored for the program `cases_heights`, and those for `cases`.
+OF_HEIGHTS = ["widths"]
+OF_CASES = [call for call in MAKERS if call not in OF_HEIGHTS]
 
 
-def stored(count, seed):
+def made(rng, name, calls=MAKERS):
+    """A file and a call on it, of these calls."""
+    drawn = [MAKERS[call][0] for call in calls for _ in range(MAKERS[call][1])]
+    return rng.choice(drawn)(rng, name)
+
+
+def stored(count, seed, calls):
     rng = random.Random(seed)
-    return [case for i in range(1, count + 1) for case in made(rng, f"random {i}")]
+    return [case for i in range(1, count + 1) for case in made(rng, f"random {i}", calls)]
