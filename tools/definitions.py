@@ -25,6 +25,7 @@ CALLS = [
     ("levels/src/lib.rt", "fill"),
     ("maxplus/src/read_list.rt", "read"),
     ("shapes/src/listing.rt", "list"),
+    ("catalogue/src/cataloguing.rt", "widths"),
     ("fit/src/fitting.rt", "fit"),
     ("report/src/face.rt", "faces_text"),
     ("saving/src/write.rt", "write_file"),
@@ -58,6 +59,11 @@ THEOREMS = [
     ("saving/proofs/RoundTrips.antt", "words-again"),
     ("saving/proofs/RoundTrips.antt", "file-again"),
     ("saving/proofs/RoundTrips.antt", "version-2-again"),
+    ("walking/proofs/WidthLayouts.antt", "width-means"),
+    ("walking/proofs/WalkLaws.antt", "walked-widths"),
+    ("walking/proofs/WalkLaws.antt", "looks-few"),
+    ("walking/proofs/WalkLaws.antt", "run-out"),
+    ("catalogue/proofs/CatalogueMeans.antt", "catalogue-means"),
 ]
 
 IMPORT = re.compile(r"^(?:ghost |pub )*use Rattle·(\w+)(?:·\w+)?\.(specs|proofs)\.((?:inside\.)?\w+)\.\{([^}]*)\}", re.M)
