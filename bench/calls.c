@@ -13,6 +13,7 @@
 #include <stdlib.h>
 #include <string.h>
 
+#include "held.h"
 #include "lazy.h"
 #include "levels.h"
 #include "lists.h"
@@ -27,23 +28,6 @@ enum { SIZES = 512, FACE_WORDS = 3 * 64 + 2 * SIZES, FILE_BYTES = 6 + 3 * 64 + 4
 static uint8_t file_room[4096], levels_room[SIZES];
 static uint32_t arena_room[WORDS], scratch_room[WORDS];
 static words arena = {arena_room, WORDS}, scratch = {scratch_room, WORDS};
-
-static bytes read_file(const char *name, uint8_t *to, size_t room) {
-    FILE *f = fopen(name, "rb");
-    if (f == NULL) {
-        perror(name);
-        exit(1);
-    }
-    size_t length = fread(to, 1, room, f);
-    fclose(f);
-    return (bytes){to, length};
-}
-
-static void hold(bool as_expected, const char *what) {
-    if (as_expected) return;
-    fprintf(stderr, "%s is another one\n", what);
-    exit(1);
-}
 
 // ---- the stack: what lies below the caller is painted, a call is made, and what is painted no more was touched
 

@@ -1,4 +1,4 @@
-// The proved calls, as rattle.rt.txt exports them. A slice is lent to Rattle as its pointer and its length.
+// The proved calls, as rattle.rt.txt and catalogue.rt.txt export them. A slice is lent to Rattle as its pointer and its length.
 #ifndef RATTLE_H
 #define RATTLE_H
 
@@ -12,6 +12,15 @@ void rattle_merge(uint32_t *arena, size_t arena_words, size_t older, size_t newe
 uint32_t rattle_list(const uint8_t *file, size_t file_bytes, const uint8_t *levels, size_t level_bytes, uint32_t rib,
                      uint32_t *arena, size_t arena_words, uint32_t *scratch, size_t scratch_words, uint32_t *output,
                      size_t output_words);
+
+// Answers with the looks.
+uint32_t rattle_widths(const uint8_t *file, size_t file_bytes, const uint8_t *levels, size_t level_bytes, uint32_t rib,
+                       const uint32_t *heights, size_t height_count, uint32_t *arena, size_t arena_words,
+                       uint32_t *scratch, size_t scratch_words, uint32_t *output, size_t output_words);
+
+// Answers with the looks. The list has room for one item more.
+size_t rattle_walk(uint32_t *list, size_t list_words, size_t items, const uint32_t *heights, size_t height_count,
+                   uint32_t *output, size_t output_words);
 
 // Answers with the area.
 uint32_t rattle_fit(const uint8_t *file, size_t file_bytes, const uint8_t *levels, size_t level_bytes, uint32_t rib,

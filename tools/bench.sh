@@ -8,8 +8,8 @@
 # It needs x86-64, the Rattle kit (rt), gcc, valgrind and python3. Where the crates are proved (`rt check`) it takes
 # under three minutes on two cores. A first run on a fresh clone also proves them.
 #
-# bench/rattle.rt.txt makes a static library of the proved calls, and the C programs of bench/ link it, once compiled by
-# gcc and once by the kit's clang. callgrind counts what is executed inside each function, so the counts are the same on
+# bench/rattle.rt.txt makes a static library of the proved calls, bench/catalogue.rt.txt one of the catalogue call, and each
+# C program of bench/ links one of them, once compiled by gcc and once by the kit's clang. callgrind counts what is executed inside each function, so the counts are the same on
 # every run.
 set -euo pipefail
 cd "$(dirname "$0")/.."
@@ -26,6 +26,9 @@ ways='newer-gap newer-tie older-gap older-tie'
 read_face=row-of-64
 filled='row-of-64 pile-of-64 balanced-64 row-of-64-repeated mixed-64-repeated
     lopsided-of-32 lopsided-of-16 lopsided-of-8'
+walked='row-of-64 pile-of-64 balanced-64 mixed-64 lopsided-64 alternating-64-many mixed-64-repeated lopsided-of-8'
+heights=256
+fewer_heights='1 4 16 64'
 saved='row-of-64 mixed-64 balanced-64 mixed-64-repeated lopsided-of-8'
 rib=20
 page=docs/BENCHMARKS.md
@@ -43,30 +46,31 @@ quietly() { # COMMAND WORD...
 
 # ---- the programs
 
-# Proves the crates, and in a temporary folder, beside copies of them, the crate of the exported calls. What target/ has
-# proved is not proved again.
-make_library() {
-    quietly rt check fit saving faces
+# Proves the crates and makes copies of them in a temporary folder. What target/ has proved is not proved again.
+copy_crates() {
+    quietly rt check fit catalogue saving faces
     mkdir -p "$work/target"
     cp -R crates crates.txt "$work"
     cp -R target/rlib target/stamp "$work/target"
-    mkdir -p "$work/crates/rattle_calls/src"
-    cp bench/rattle.rt.txt "$work/crates/rattle_calls/src/lib.rt"
-    echo 'rattle_calls: maxplus merging parts levels shapes placing fit saving' >>"$work/crates.txt"
-    (cd "$work" && quietly rt staticlib rattle_calls)
+}
+
+# Proves there, beside the copies, a crate of exported calls, and makes a static library of it.
+make_library() { # NAME FILE DEP...
+    mkdir -p "$work/crates/$1/src"
+    cp "$2" "$work/crates/$1/src/lib.rt"
+    echo "$1: ${*:3}" >>"$work/crates.txt"
+    (cd "$work" && quietly rt staticlib "$1")
 }
 
 # Links the levels call alone, without the C library.
 link_levels() {
-    mkdir -p "$work/crates/levels_alone/src"
-    cat >"$work/crates/levels_alone/src/lib.rt" <<'END'
+    cat >"$work/levels.rt" <<'END'
 #[no_mangle]
 pub extern "C" fn levels_call(file: &[u8], levels: &mut [u8]) -> u32 {
     levels::fill(file, levels)
 }
 END
-    echo 'levels_alone: levels' >>"$work/crates.txt"
-    (cd "$work" && quietly rt staticlib levels_alone)
+    make_library levels_alone "$work/levels.rt" levels
     gcc -nostdlib -static-pie -Wl,--gc-sections,-u,levels_call,-e,levels_call,--unresolved-symbols=ignore-all \
         -o "$work/levels" "$work/target/staticlib/liblevels_alone.a"
 }
@@ -80,16 +84,15 @@ run_compiler() { # COMPILER WORD...
     fi
 }
 
-# Compiles a program of files of bench/ by both compilers. gcc links it: with -z now the dynamic linker's work is done
-# before the program starts.
-compile() { # PROGRAM FILE...
+# Compiles a program of files of bench/ by both compilers, with a library of exported calls. gcc links it: with -z now the
+# dynamic linker's work is done before the program starts.
+compile() { # PROGRAM LIBRARY FILE...
     for compiler in gcc clang; do
         mkdir -p "$work/$1-$compiler.objects"
-        for file in "${@:2}"; do
+        for file in "${@:3}"; do
             run_compiler $compiler -c -o "$work/$1-$compiler.objects/$file.o" "bench/$file"
         done
-        gcc -Wl,-z,now -o "$work/$1-$compiler" "$work/$1-$compiler.objects"/*.o \
-            "$work/target/staticlib/librattle_calls.a"
+        gcc -Wl,-z,now -o "$work/$1-$compiler" "$work/$1-$compiler.objects"/*.o "$work/target/staticlib/lib$2.a"
     done
 }
 
@@ -132,6 +135,10 @@ profile_ribs() { # FACE...
     for face in "$@"; do profile "$face-rib" calls "$work/$face.fce" "$work/$face.own" $rib; done
 }
 
+profile_walks() { # HEIGHTS FACE...
+    for face in "${@:2}"; do profile "$face-$1" catalogue "$work/$face.fce" "$work/$face.own" "$1"; done
+}
+
 profile_process() {
     count process target/bin/faces <"$work/$read_face.fce" >"$work/process.printed"
 }
@@ -142,6 +149,8 @@ profile_all() {
     for table in own scattered; do profile_calls $table $(growing); done
     profile_calls own $printed
     profile_ribs $faces
+    profile_walks $heights $walked
+    for count in $fewer_heights; do profile_walks "$count" $read_face; done
     profile_process
 }
 
@@ -321,6 +330,18 @@ levels_size_table() {
     row $((16#$beside)) "$(section .text)" "$(section .rodata)"
 }
 
+walk_row() { # HEIGHTS FACE
+    read -r items looks <"$work/$2-$1.printed"
+    row "$2" "$items" "$1" "$looks" "$(rattle rattle_widths "$2-$1")" "$(beside_c "$(rattle rattle_walk "$2-$1")" \
+        "$(inside walking_widths "$2-$1-gcc")" "$(inside walking_widths "$2-$1-clang")")"
+}
+
+catalogue_table() {
+    header face items heights looks 'call, Rattle' 'walk, Rattle' "${c_names[@]}"
+    for face in $walked; do walk_row $heights $face; done
+    for count in $fewer_heights; do walk_row "$count" $read_face; done
+}
+
 # Words to a file, and a file to words.
 saving_table() {
     header face bytes words 'write, Rattle' "${c_names[@]}" 'read, Rattle' "${c_names[@]}"
@@ -372,6 +393,7 @@ print_all() {
     with '## The reading call' reading_table
     with '## The levels call' levels_call_table
     with 'Linked, in bytes:' levels_size_table
+    with '## The catalogue call' catalogue_table
     with '## Saving a face' saving_table
     with '## The program faces' process_table
     with '## Stack' stack_table
@@ -380,10 +402,13 @@ print_all() {
 # ---- all of it
 
 echo 'Proving the calls and building the programs.' >&2
-make_library
+copy_crates
+make_library rattle_calls bench/rattle.rt.txt maxplus merging parts levels shapes placing fit saving
+make_library rattle_catalogue bench/catalogue.rt.txt walking catalogue
 link_levels
-compile merge merge.c lazy.c plain.c useful.c
-compile calls calls.c lists.c lazy.c plain.c useful.c reading.c stored.c face.c saving.c levels.c
+compile merge rattle_calls merge.c lazy.c plain.c useful.c
+compile catalogue rattle_catalogue catalogue.c walking.c lists.c lazy.c plain.c useful.c face.c
+compile calls rattle_calls calls.c lists.c lazy.c plain.c useful.c reading.c stored.c face.c saving.c levels.c
 PYTHONPATH=tools python3 -B -m making.bench_faces "$work" $faces $(growing) $printed
 profile_all
 print_all | tee "$work/tables"
