@@ -15,7 +15,7 @@
 #include "rattle.h"
 #include "walking.h"
 
-enum { PAIRS = 2 * 449, HEIGHTS = 256 };
+enum { PAIRS = 2 * 449, HEIGHTS = 256, PAINT = 0xA5 };
 
 static uint8_t file_room[4096], levels_room[512];
 static uint32_t arena_room[WORDS], scratch_room[WORDS];
@@ -23,7 +23,10 @@ static uint32_t arena_room[WORDS], scratch_room[WORDS];
 // The outer sizes, with room for one more.
 static uint32_t list[PAIRS + 2];
 
-static uint32_t heights[HEIGHTS], in_c[HEIGHTS], rattle[HEIGHTS];
+static uint32_t heights[HEIGHTS];
+
+// The widths of each walk, and those of the call. All are painted first, so that a width that was not written is seen.
+static uint32_t in_c[HEIGHTS], walked[HEIGHTS], called[HEIGHTS];
 
 static size_t make_list(bytes file, bytes levels) {
     words arena = {arena_room, WORDS}, scratch = {scratch_room, WORDS};
@@ -38,12 +41,15 @@ static void make_heights(size_t count) {
 
 // Answers with the looks.
 static size_t walks(bytes file, bytes levels, size_t items, size_t count) {
+    memset(in_c, PAINT, sizeof in_c);
+    memset(walked, PAINT, sizeof walked);
+    memset(called, PAINT, sizeof called);
     size_t looks = walking_widths((words){list, 2 * items}, (words){heights, count}, in_c);
-    size_t walk_looks = rattle_walk(list, PAIRS + 2, items, heights, count, rattle, count);
-    hold(walk_looks == looks && memcmp(rattle, in_c, sizeof in_c) == 0, "what Rattle's walk gives");
+    size_t walk_looks = rattle_walk(list, PAIRS + 2, items, heights, count, walked, count);
     size_t call_looks = rattle_widths(file.bytes, file.length, levels.bytes, levels.length, 0, heights, count,
-                                      arena_room, WORDS, scratch_room, WORDS, rattle, count);
-    hold(call_looks == looks && memcmp(rattle, in_c, sizeof in_c) == 0, "what Rattle's catalogue call gives");
+                                      arena_room, WORDS, scratch_room, WORDS, called, count);
+    hold(walk_looks == looks && memcmp(walked, in_c, sizeof in_c) == 0, "what Rattle's walk gives");
+    hold(call_looks == looks && memcmp(called, in_c, sizeof in_c) == 0, "what Rattle's catalogue call gives");
     return looks;
 }
 
