@@ -1,4 +1,5 @@
-// The proved calls, as rattle.rt.txt and catalogue.rt.txt export them. A slice is lent to Rattle as its pointer and its length.
+// The proved calls, as rattle.rt.txt and catalogue.rt.txt export them. A slice is lent to Rattle as its pointer and its
+// length.
 #ifndef RATTLE_H
 #define RATTLE_H
 

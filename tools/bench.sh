@@ -8,9 +8,9 @@
 # It needs x86-64, the Rattle kit (rt), gcc, valgrind and python3. Where the crates are proved (`rt check`) it takes
 # under three minutes on two cores. A first run on a fresh clone also proves them.
 #
-# bench/rattle.rt.txt makes a static library of the proved calls, bench/catalogue.rt.txt one of the catalogue call, and each
-# C program of bench/ links one of them, once compiled by gcc and once by the kit's clang. callgrind counts what is executed inside each function, so the counts are the same on
-# every run.
+# bench/rattle.rt.txt makes a static library of the proved calls, bench/catalogue.rt.txt one of the catalogue call, and
+# each C program of bench/ links one of them, once compiled by gcc and once by the kit's clang. callgrind counts what is
+# executed inside each function, so the counts are the same on every run.
 set -euo pipefail
 cd "$(dirname "$0")/.."
 SECONDS=0
