@@ -7,3 +7,5 @@ pub mod Walking
 pub mod ListLaws
 pub mod CarriedLaws
 pub mod HeldLaws
+pub mod BackLaws
+pub mod BackStores

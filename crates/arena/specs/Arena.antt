@@ -1,11 +1,11 @@
--- Document 01, "Lazy lists": the words of a record. Links are counted from 0 here: link k is the document's forward k + 1 and adjust k + 1, and a record of level l has links 0 to l - 1.
+-- Document 01, "Lazy lists", and document 02, paper 6: the words of a record. Links are counted from 0 here: link k is the document's forward k + 1 and adjust k + 1, and a record of level l has links 0 to l - 1.
 use mathlib.Core.List.{List}
 use Prim.Native.Nat.{ℕ, _+_, _*_}
 use lib.ListN.{getD}
 
--- "Record r is the 19 arena words from 19r."
+-- "An arena record grows to 20 words." "Record r starts at word 20r."
 abbrev pub stride : ℕ
-stride = 19
+stride = 20
 
 unfoldable pub word : List ℕ → ℕ → ℕ → ℕ
 word a r j = getD a (stride * r + j) 0
@@ -26,6 +26,10 @@ forwardAt = 3
 abbrev pub adjustAt : ℕ
 adjustAt = 11
 
+-- "Word 19 is the record before it on the list".
+abbrev pub backAt : ℕ
+backAt = 19
+
 abbrev pub level : List ℕ → ℕ → ℕ
 level a r = word a r levelAt
 
@@ -40,3 +44,6 @@ forward a r k = word a r (forwardAt + k)
 
 abbrev pub adjust : List ℕ → ℕ → ℕ → ℕ
 adjust a r k = word a r (adjustAt + k)
+
+abbrev pub back : List ℕ → ℕ → ℕ
+back a r = word a r backAt

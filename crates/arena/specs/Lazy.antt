@@ -1,4 +1,4 @@
--- Document 01, "Lazy lists": what a list of records in an arena holds, and when it is a lazy list.
+-- Document 01, "Lazy lists", and document 02, paper 6: what a list of records in an arena holds, and when it is a lazy list.
 use mathlib.Core.Bool.{Bool, true, cond, _&&_}
 use mathlib.Core.List.{List, [], _∷_, _++_}
 use Prim.Native.Nat.{ℕ, zero, suc, _+_, _%_, _^_}
@@ -7,7 +7,7 @@ use Rattle.checks.specs.Check.{LazyList}
 use Rattle.checks.specs.Limits.{mostSizes}
 use Rattle.checks.specs.Answer.{Answer, refused, taken, ask, next}
 use Rattle.slicing.specs.Recorded.{Recorded}
-use Rattle.arena.specs.Arena.{level, mWord, pWord, forward, adjust}
+use Rattle.arena.specs.Arena.{level, mWord, pWord, forward, adjust, back}
 
 -- "the number of the next record on the list with level i or more, and 0 for none": the first of rs that has link k.
 unfoldable pub nextWith : List ℕ → ℕ → List ℕ → ℕ
@@ -58,9 +58,15 @@ falling [] = true
 falling (x ∷ []) = true
 falling (x ∷ y ∷ l) = ltb (y .item .m) (x .item .m) && (ltb (x .item .p) (y .item .p) && falling (y ∷ l))
 
--- "An arena holds a lazy list if record 0 has level 8," and all of the above: the items that it holds.
+-- "Word 19 is the record before it on the list; in the first item it is 0, and in the head it is the last item, or 0 for an empty list": the back words of the records rs, which come after the record `before`, and then the head's.
+unfoldable pub backsRight : List ℕ → ℕ → List ℕ → Bool
+backsRight a before [] = eqb (back a 0) before
+backsRight a before (r ∷ rs) = eqb (back a r) before && backsRight a r rs
+
+-- "An arena holds a lazy list if record 0 has level 8," and all of the above: the items that it holds. "A lazy list in check 20 now has right back words as well."
 unfoldable pub lazyList : List ℕ → Answer (List Recorded)
 lazyList a =
     ask (eqb (level a 0) 8) LazyList
     (next (walk mostSizes a (forward a 0 0))
-    (λ rs. ask (linksRight a 0 rs 8 && (linked a rs && falling (held a 0 [] rs))) LazyList (taken (held a 0 [] rs))))
+    (λ rs.
+    ask (linksRight a 0 rs 8 && (linked a rs && (falling (held a 0 [] rs) && backsRight a 0 rs))) LazyList (taken (held a 0 [] rs))))

@@ -2,3 +2,4 @@ pub mod Chain
 pub mod Built
 pub mod Sums
 pub mod Carried
+pub mod Backs

@@ -2,5 +2,5 @@
 pub mod sums;
 pub mod words;
 
-// "Record r is the 19 arena words from 19r."
-pub const STRIDE: usize = 19;
+// "An arena record grows to 20 words." "Record r starts at word 20r."
+pub const STRIDE: usize = 20;

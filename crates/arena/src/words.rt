@@ -17,6 +17,9 @@ pub const FORWARD: usize = 3;
 
 pub const ADJUST: usize = 11;
 
+// "Word 19 is the record before it on the list; in the first item it is 0, and in the head it is the last item".
+pub const BACK: usize = 19;
+
 // Word j of record r.
 pub fn get(arena: &[u32], r: usize, j: usize) -> u32
     requires { ⌜ Has (now arena) r × (j < stride) ⌝ }
