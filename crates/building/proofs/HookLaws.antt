@@ -5,7 +5,7 @@ use mathlib.Core.List.{List}
 use Prim.Native.Nat.{ℕ, suc, _+_, _-_, _≤_, _<_}
 use native.Mathlib.Omega.{arith}
 use lib.ListN.{length}
-use Rattle.arena.specs.Arena.{stride, word, level, forward, adjust}
+use Rattle.arena.specs.Arena.{stride, word, level, forward, adjust, backAt}
 use Rattle.arena.specs.inside.Chain.{Has, put}
 use Rattle.building.specs.inside.Building.{hook1, Hooked, Hookable}
 use Rattle.arena.proofs.Cases.{eq-or-ne}
@@ -24,6 +24,7 @@ hooked-none n a h r =
       new-adjust = λ k s p q. absurd (omega arith);
       old-forward = λ k p q. refl;
       old-adjust = λ k p q. refl;
+      backs-kept = λ x. refl;
     }
 
 -- The words after link n is hooked too.
@@ -100,6 +101,8 @@ hooked-one m n a h r b less few can s =
           λ k p q. kept (3 + k) (λ e. omega arith) (λ e. omega arith) (omega arith) ∙ s .old-forward k (omega arith) q;
       old-adjust =
           λ k p q. kept (11 + k) (λ e. omega arith) (λ e. omega arith) (omega arith) ∙ s .old-adjust k (omega arith) q;
+      backs-kept =
+          λ x. one-field b h r m eight x backAt (λ e. omega arith) (λ e. omega arith) (omega arith) ∙ s .backs-kept x;
     }
   where
     eight : m < 8
@@ -181,6 +184,9 @@ hooked-all n t h r first b some few head-has has apart s =
           λ k one p q. other-field r (11 + k) (λ e. omega arith) (omega arith) ∙ s .new-adjust k one one q;
       old-forward = λ k p q. absurd (omega arith);
       old-adjust = λ k p q. absurd (omega arith);
+      backs-kept =
+          λ x. other-field x backAt (λ e. omega arith) (omega arith) ∙ s .backs-kept x
+          ∙ moved x backAt (λ e. omega arith) (omega arith);
     }
   where
     b-has : Has b h

@@ -8,9 +8,10 @@ use lib.ListN.{length, getD, drop, drop-of-length-le, length-drop}
 use lib.Seq.{drop-length, getD-drop}
 use Rattle.slicing.specs.Item.{Item, size}
 use Rattle.slicing.specs.Useful.{gaugeShapes}
-use Rattle.arena.specs.Arena.{level, mWord, levelAt, mAt, forwardAt}
-use Rattle.arena.specs.inside.Chain.{put, All, Away, trues, Same}
+use Rattle.arena.specs.Arena.{level, mWord, levelAt, mAt, forwardAt, backAt}
+use Rattle.arena.specs.inside.Chain.{Has, put, All, Away, trues, Same}
 use Rattle.arena.specs.inside.Built.{Built}
+use Rattle.arena.specs.inside.Backs.{Backed}
 use Rattle.building.specs.inside.Building.{Cleared}
 use Rattle.sizes.specs.declared.Size.{Size}
 use Rattle.sizes.specs.inside.Sizes.{sizesIn, SizeIn}
@@ -20,10 +21,12 @@ use Rattle.useful.proofs.Digits.{digits-all}
 use Rattle.useful.proofs.Places.{places-length, places-apart}
 use Rattle.useful.proofs.LastDigit.{Digit, digit, none-left, rest-step, size-read}
 use Rattle.loading.specs.inside.Loading.{recordsOf, Placed, Loadable, Loaded}
-use Rattle.arena.proofs.PutLaws.{length-put, same-refl, same-trans}
-use Rattle.arena.proofs.Frames.{all-map, all-both, map-same}
+use Rattle.arena.proofs.PutLaws.{length-put, same-put, same-refl, same-trans}
+use Rattle.arena.proofs.Frames.{all-map, all-refl, all-both, map-same}
+use Rattle.arena.proofs.BackStores.{word-stays, built-stays, trues-stay, stored-beside}
 use Rattle.building.proofs.ClearLaws.{cleared-first}
 use Rattle.loading.proofs.Written.{Loaded1, loaded-beside}
+use Rattle.loading.proofs.LoadedBacks.{Waiting, backed-none, waiting-has, waiting-other, waiting-kept, waiting-stored}
 
 abbrev ms : List Item → List ℕ
 ms zs = map (λ (z : Item). z .m) zs
@@ -52,14 +55,29 @@ pub record Filled (a : List ℕ) (head first : ℕ) (s : List Item) (levels d : 
   pub m-is : map (mWord d) (recordsFrom first s i) ≡ ms (drop i (gaugeShapes s))
   pub true-p : trues d (λ k. 0) (recordsFrom first s i) ≡ ps (drop i (gaugeShapes s))
 
--- The same with that forward beside the arena b, as `last`, and the word that is left.
-pub record Loading (a : List ℕ) (head first : ℕ) (sizes levels : List ℕ) (order : ℕ) (b : List ℕ) (last left : ℕ) : Type 0 where
+-- The same with that forward beside the arena b, as `last`, and the word that is left. The back word of `after` waits.
+pub record Loading (a : List ℕ) (head first : ℕ) (sizes levels : List ℕ) (order : ℕ) (b : List ℕ) (last after left : ℕ) : Type 0 where
   pub i : ℕ
   pub inside : i ≤ length (listPlaces (sizesIn (length levels) sizes))
   pub left-is : left ≡ firstDigits (listPlaces (sizesIn (length levels) sizes)) i
   pub can : Loadable b head first sizes levels order
   pub long : length b ≡ length a
   pub filled : Filled a head first (sizesIn (length levels) sizes) levels (put b head forwardAt last) i
+  pub waiting : Waiting (put b head forwardAt last) head after (recordsFrom first (sizesIn (length levels) sizes) i)
+
+-- A back word stored, of the head or of a record of the list.
+module _ (a : List ℕ) (head first : ℕ) (s : List Item) (levels d : List ℕ) (i r v : ℕ) where
+  filled-stays : ((x : ℕ) → (x ≡ head → ⊥) → Away x (recordsFrom first s i) → x ≡ r → ⊥) → Filled a head first s levels d i → Filled a head first s levels (put d r backAt v) i
+  filled-stays other f =
+      let rs = recordsFrom first s i in
+      let e = put d r backAt v in
+      record {
+        outside = λ x p q. same-trans a d e x (f .outside x p q) (same-put d r backAt v x (other x p q) (omega arith));
+        built = built-stays d r v head rs (f .built);
+        level-is = map-same (level e) (level d) rs (all-refl rs (λ x. word-stays d r v x levelAt (omega arith))) ∙ f .level-is;
+        m-is = map-same (mWord e) (mWord d) rs (all-refl rs (λ x. word-stays d r v x mAt (omega arith))) ∙ f .m-is;
+        true-p = trues-stay d r v (λ k. 0) rs ∙ f .true-p;
+      }
 
 loadable-kept : (a b : List ℕ) (head first : ℕ) (sizes levels : List ℕ) (order : ℕ) → length b ≡ length a → Loadable a head first sizes levels order → Loadable b head first sizes levels order
 loadable-kept a b head first sizes levels order long l =
@@ -78,7 +96,7 @@ loadable-kept a b head first sizes levels order long l =
       order-is = l .order-is;
     }
 
-pub loading-start : (a : List ℕ) (head first : ℕ) (sizes levels : List ℕ) (order : ℕ) (b : List ℕ) → Loadable a head first sizes levels order → Cleared a head b → Loading b head first sizes levels order b 0 order
+pub loading-start : (a : List ℕ) (head first : ℕ) (sizes levels : List ℕ) (order : ℕ) (b : List ℕ) → Loadable a head first sizes levels order → Cleared a head b → Loading b head first sizes levels order b 0 head order
 unfolding trues orderWord
 loading-start a head first sizes levels order b l cleared =
     let s = sizesIn (length levels) sizes in
@@ -101,6 +119,7 @@ loading-start a head first sizes levels order b l cleared =
             m-is = rw (no-place, no-size) refl;
             true-p = rw (no-place, no-size) refl;
           });
+      waiting = rw no-place refl;
     }
 
 pub loading-low : (b : List ℕ) (head first : ℕ) (sizes levels : List ℕ) (order k v : ℕ) → Loadable b head first sizes levels order → k < length levels → v ≡ getD levels k 0 → 1 ≤ v
@@ -109,8 +128,17 @@ loading-low b head first sizes levels order k v l p e = let h = l .low k p in om
 pub loading-high : (b : List ℕ) (head first : ℕ) (sizes levels : List ℕ) (order k v : ℕ) → Loadable b head first sizes levels order → k < length levels → v ≡ getD levels k 0 → v ≤ 8
 loading-high b head first sizes levels order k v l p e = let h = l .high k p in omega arith
 
+-- The arena has the record whose back word waits.
+pub loading-after : (a : List ℕ) (head first : ℕ) (sizes levels : List ℕ) (order : ℕ) (b : List ℕ) (last after left : ℕ) → Loading a head first sizes levels order b last after left → Has b after
+loading-after a head first sizes levels order b last after left t =
+    let d = put b head forwardAt last in
+    let linked = t .filled .built .linked in
+    let long = length-put b head forwardAt last in
+    let has : Has d after = waiting-has d head after (recordsFrom first (sizesIn (length levels) sizes) (t .i)) (linked .has) (linked .chain) (t .waiting) in
+    omega arith
+
 -- The record of the place whose digit is the last, before those of the places after it.
-module _ (a : List ℕ) (head first : ℕ) (sizes levels : List ℕ) (order : ℕ) (b : List ℕ) (last left : ℕ) (t : Loading a head first sizes levels order b last left) (more : 0 < left) where
+module _ (a : List ℕ) (head first : ℕ) (sizes levels : List ℕ) (order : ℕ) (b : List ℕ) (last after left : ℕ) (t : Loading a head first sizes levels order b last after left) (more : 0 < left) where
   abbrev s : List Item
   s = sizesIn (length levels) sizes
 
@@ -198,39 +226,77 @@ module _ (a : List ℕ) (head first : ℕ) (sizes levels : List ℕ) (order : �
               (one .true-p ∙ ap (λ (l : List ℕ). z .width ∷ l) (before .true-p));
         }
 
-    pub loading-more : Loading a head first sizes levels order c (first + k) (left / 16)
-    loading-more =
-        let inside = taken .in-list in
-        let stored = one .long in
-        let before = length-put b head forwardAt last in
-        let after = length-put c head forwardAt (first + k) in
-        let long : length c ≡ length b = omega arith in
-        record {
-          i = j;
-          inside = omega arith;
-          left-is = taken .rest;
-          can = loadable-kept b c head first sizes levels order long (t .can);
-          long = long ∙ t .long;
-          filled = filled-one;
-        }
+    -- The arena after, with the waiting back word stored too.
+    abbrev o : List ℕ
+    o = put e after backAt (first + k)
 
-filled-all : (a : List ℕ) (head first : ℕ) (s : List Item) (levels b c : List ℕ) → Cleared a head b → length c ≡ length b → Filled b head first s levels c 0 → Loaded a head first s levels c
+    old : Waiting e head after rest
+    unfolding rest
+    old =
+        waiting-kept d e head after (one .backs-kept) rest
+        (subst (λ (i : ℕ). Waiting d head after (recordsFrom first s i)) (taken .before-i) (t .waiting))
+
+    filled-back : Filled a head first s levels o j
+    unfolding rest
+    filled-back =
+        filled-stays a head first s levels e j after (first + k)
+        (rw places-step (λ x p q. waiting-other e head after rest old x p (q .1))) filled-one
+
+    new : Waiting o head (first + k) (recordsFrom first s j)
+    unfolding rest
+    new =
+        let linked = one .built .linked in
+        rw places-step (refl, waiting-stored e head after (first + k) rest (linked .has) (linked .away .1) (linked .chain .1) old)
+
+    module _ (g : List ℕ) (stored : g ≡ put c after backAt (first + k)) where
+      beside : o ≡ put g head forwardAt (first + k)
+      beside = sym (stored-beside c after (first + k) g stored head (first + k))
+
+      pub loading-more : Loading a head first sizes levels order g (first + k) (first + k) (left / 16)
+      loading-more =
+          let inside = taken .in-list in
+          let filled-long = one .long in
+          let before-long = length-put b head forwardAt last in
+          let after-long = length-put c head forwardAt (first + k) in
+          let stored-long : length g ≡ length c = ap length stored ∙ length-put c after backAt (first + k) in
+          let long : length g ≡ length b = omega arith in
+          record {
+            i = j;
+            inside = omega arith;
+            left-is = taken .rest;
+            can = loadable-kept b g head first sizes levels order long (t .can);
+            long = long ∙ t .long;
+            filled = subst (λ (l : List ℕ). Filled a head first s levels l j) beside filled-back;
+            waiting = subst (λ (l : List ℕ). Waiting l head (first + k) (recordsFrom first s j)) beside new;
+          }
+
+filled-all : (a : List ℕ) (head first : ℕ) (s : List Item) (levels b c : List ℕ) → Cleared a head b → length c ≡ length b → Filled b head first s levels c 0 → Backed c head (recordsFrom first s 0) → Loaded a head first s levels c
 unfolding recordsOf
-filled-all a head first s levels b c cleared long f =
+filled-all a head first s levels b c cleared long f backed =
     record {
       long = long ∙ cleared .long;
       outside = λ x p q. same-trans a b c x (cleared .outside x p) (f .outside x p q);
       built = f .built;
+      backed = backed;
       level-is = f .level-is;
       m-is = f .m-is;
       true-p = f .true-p;
     }
 
-module _ (a : List ℕ) (head first : ℕ) (sizes levels : List ℕ) (order : ℕ) (b d : List ℕ) (last left : ℕ) (cleared : Cleared a head b) (t : Loading b head first sizes levels order d last left) (none : left ≤ 0) where
-  pub loading-done : (c : List ℕ) → c ≡ put d head forwardAt last → Loaded a head first (sizesIn (length levels) sizes) levels c
-  loading-done c stored =
+module _ (a : List ℕ) (head first : ℕ) (sizes levels : List ℕ) (order : ℕ) (b d : List ℕ) (last after left : ℕ) (cleared : Cleared a head b) (t : Loading b head first sizes levels order d last after left) (none : left ≤ 0) where
+  pub loading-done : (c g : List ℕ) → c ≡ put d head forwardAt last → g ≡ put c after backAt 0 → Loaded a head first (sizesIn (length levels) sizes) levels g
+  loading-done c g c-is g-is =
       let s = sizesIn (length levels) sizes in
+      let rs = recordsFrom first s 0 in
+      let e = put d head forwardAt last in
+      let stored : put e after backAt 0 ≡ g = sym (g-is ∙ ap (λ (l : List ℕ). put l after backAt 0) c-is) in
       let start : t .i ≡ 0 = none-left (listPlaces s) (t .i) left (t .inside) (t .left-is) none in
-      let whole = subst (Filled b head first s levels (put d head forwardAt last)) start (t .filled) in
-      filled-all a head first s levels b c cleared (ap length stored ∙ length-put d head forwardAt last ∙ t .long)
-      (subst (λ (g : List ℕ). Filled b head first s levels g 0) (sym stored) whole)
+      let whole = subst (Filled b head first s levels e) start (t .filled) in
+      let waiting : Waiting e head after rs = subst (λ (i : ℕ). Waiting e head after (recordsFrom first s i)) start (t .waiting) in
+      let linked = whole .built .linked in
+      let backs = waiting-stored e head after 0 rs (linked .has) (linked .away) (linked .chain) waiting in
+      let long = length-put e after backAt 0 ∙ length-put d head forwardAt last ∙ t .long in
+      subst (Loaded a head first s levels) stored
+      (filled-all a head first s levels b (put e after backAt 0) cleared long
+      (filled-stays b head first s levels e 0 after 0 (waiting-other e head after rs waiting) whole)
+      (backed-none (put e after backAt 0) head rs backs))

@@ -5,9 +5,10 @@ use mathlib.Core.List.{List, _∷_}
 use Prim.Native.Nat.{ℕ, _%_, _^_, _≤_, _<_}
 use native.Mathlib.Omega.{arith}
 use lib.ListN.{length}
-use Rattle.arena.specs.Arena.{level, mWord, pWord, levelAt, mAt, pAt, forwardAt}
+use Rattle.arena.specs.Arena.{level, mWord, pWord, levelAt, mAt, pAt, forwardAt, backAt}
 use Rattle.arena.specs.inside.Chain.{Has, put, All, Away, trues, Same}
 use Rattle.arena.specs.inside.Built.{Built}
+use Rattle.arena.specs.inside.Backs.{BacksKept}
 use Rattle.building.specs.inside.Building.{Hooked, Fresh, Prepended}
 use Rattle.loading.specs.inside.Loading.{written, Placed}
 use Rattle.arena.proofs.PutLaws.{length-put, word-same, word-other-record, word-other-field, put-swap, same-trans}
@@ -28,6 +29,13 @@ module _ (a : List ℕ) (r l m p : ℕ) where
             ∙ word-other-record _ r mAt m x j q (omega arith) w
             ∙ word-other-record a r levelAt l x j q (omega arith) w;
       }
+
+  written-backs : BacksKept a (written a r l m p)
+  unfolding written
+  written-backs x =
+      word-other-field _ r pAt p x backAt (λ e. omega arith) (omega arith) (omega arith)
+      ∙ word-other-field _ r mAt m x backAt (λ e. omega arith) (omega arith) (omega arith)
+      ∙ word-other-field a r levelAt l x backAt (λ e. omega arith) (omega arith) (omega arith)
 
   module _ (has : Has a r) where
     written-level : level (written a r l m p) r ≡ l
@@ -72,6 +80,7 @@ module _ (a : List ℕ) (r l m p last : ℕ) (b c d e : List ℕ) (first : b ≡
 pub record Loaded1 (a : List ℕ) (h r l m p : ℕ) (rs b : List ℕ) : Type 0 where
   pub long : length b ≡ length a
   pub outside : (x : ℕ) → (x ≡ h → ⊥) → (x ≡ r → ⊥) → Same a b x
+  pub backs-kept : BacksKept a b
   pub level-is : level b r ≡ l
   pub m-is : mWord b r ≡ m
   pub built : Built b h (r ∷ rs)
@@ -91,6 +100,7 @@ loaded-one a h r l m p rs b built some has low high small apart away hooks =
     record {
       long = q .long ∙ long;
       outside = λ x v w. same-trans a s b x (written-outside a r l m p x w) (q .outside x v w);
+      backs-kept = λ x. hooks .backs-kept x ∙ written-backs a r l m p x;
       level-is = q .low r levelAt (omega arith) ∙ level-is;
       m-is = q .low r mAt (omega arith) ∙ written-m a r l m p has;
       built = q .built;

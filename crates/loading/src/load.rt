@@ -5,6 +5,7 @@ ghost use lib.ListN.{length};
 ghost use Rattle.sizes.specs.inside.Sizes.{sizesIn};
 ghost use Rattle.building.specs.inside.Building.{Hookable};
 ghost use Rattle.loading.specs.inside.Loading.{Placed, Loadable, Loaded};
+use arena::words::BACK;
 use arena::words::FORWARD;
 use arena::words::LEVEL;
 use arena::words::M;
@@ -35,13 +36,15 @@ fn load_record(arena: &mut [u32], head: usize, r: usize, last: u32, level: u32, 
 
 // Makes the list of a head of the useful sizes, four bytes a size: m is the height and p the width. The digits of `order`
 // name them, and each has its level and the record of its number from `first` on. The head's first forward is kept beside
-// the arena and stored at the end.
+// the arena and stored at the end. The list grows at its top: each new record is the back word of the one after it, and
+// the first of all, which will be the last item, that of the head.
 pub fn load(arena: &mut [u32], head: usize, first: usize, sizes: &[u8], levels: &[u8], order: u32)
     requires { ⌜ Loadable (now arena) head first (now sizes) (now levels) order ⌝ }
     ensures { λ _. ⌜ Loaded (now (arena .entry)) head first (sizesIn (length (now (levels .entry))) (now (sizes .entry))) (now (levels .entry)) (now (arena .exit)) ⌝ }
 {
     clear_head(arena, head);
     let mut last = 0;
+    let mut after = head;
     let mut left = order;
     while 0 < left {
         let k = (left % 16) as usize - 1;
@@ -50,7 +53,10 @@ pub fn load(arena: &mut [u32], head: usize, first: usize, sizes: &[u8], levels: 
         let r = first + k;
         load_record(arena, head, r, last, level, z.height, z.width);
         last = r as u32;
+        store(arena, after, BACK, last);
+        after = r;
         left = left / 16;
     }
     store(arena, head, FORWARD, last);
+    store(arena, after, BACK, 0);
 }

@@ -1,4 +1,5 @@
 pub mod LinkTurns
 pub mod Swaps
 pub mod Turns
+pub mod TurnedBacks
 pub mod TurnWalk

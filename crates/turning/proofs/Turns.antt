@@ -5,13 +5,14 @@ use mathlib.Core.List.{List, [], _∷_, map, reverseAux}
 use Prim.Native.Nat.{ℕ, _%_, _^_, _≤_, _<_}
 use native.Mathlib.Omega.{arith}
 use lib.ListN.{length}
-use Rattle.arena.specs.Arena.{word, level, mWord, pWord, levelAt, mAt, forwardAt}
+use Rattle.arena.specs.Arena.{word, level, mWord, pWord, levelAt, mAt, forwardAt, backAt}
 use Rattle.arena.specs.Lazy.{nextWith}
-use Rattle.arena.specs.inside.Chain.{All, Away, Member, Chain, after, trues, Same}
+use Rattle.arena.specs.inside.Chain.{put, All, Away, Member, Chain, after, trues, Same}
 use Rattle.arena.specs.inside.Built.{Built}
 use Rattle.building.specs.inside.Building.{Fresh}
-use Rattle.arena.proofs.PutLaws.{same-refl, same-trans}
+use Rattle.arena.proofs.PutLaws.{length-put, same-put, same-trans}
 use Rattle.arena.proofs.Frames.{all-map, all-refl, all-both, map-same, same-shape, same-value, next-frame, chain-frame, trues-frame}
+use Rattle.arena.proofs.BackStores.{word-stays, built-stays, trues-stay}
 use Rattle.turning.proofs.Swaps.{Turned1}
 
 -- The arena b is a with the records qs turned, one by one, to before the list ds of the head h.
@@ -34,18 +35,19 @@ pub record Ready (a : List ℕ) (h : ℕ) (ds qs : List ℕ) (next : ℕ) : Type
   pub apart : Away h qs
   pub cross : All (λ x. Away x ds) qs
 
-pub moved-none : (a : List ℕ) (f : ℕ → ℕ) (h : ℕ) (ds : List ℕ) → Built a h ds → Moved a f h ds [] a
+-- Where none are left, the back word of the head is stored.
+pub moved-none : (a : List ℕ) (f : ℕ → ℕ) (h v : ℕ) (ds : List ℕ) → Built a h ds → Moved a f h ds [] (put a h backAt v)
 unfolding trues
-moved-none a f h ds built =
+moved-none a f h v ds built =
     record {
-      long = refl;
-      outside = λ x p q w. same-refl a x;
-      kept = all-refl ds (λ x j p. refl);
-      built = built;
+      long = length-put a h backAt v;
+      outside = λ x p q w. same-put a h backAt v x p (omega arith);
+      kept = all-refl ds (λ x j p. word-stays a h v x j (omega arith));
+      built = built-stays a h v h ds built;
       levels = tt;
       m-is = refl;
       p-is = refl;
-      true-p = refl;
+      true-p = trues-stay a h v (λ k. 0) ds;
     }
 
 -- The first record left can stand before the list.
@@ -69,7 +71,7 @@ module _ (a : List ℕ) (f : ℕ → ℕ) (h r : ℕ) (ds qs : List ℕ) (next :
   left-same : All (Same a b) qs
   left-same = all-both qs (one .outside) (ready .apart .1) (member .away)
 
-  built-same : All (Same a b) ds
+  pub built-same : All (Same a b) ds
   built-same = all-both ds (one .outside) (ready .built .linked .away) (ready .cross .0)
 
   pub ready-more : (n : ℕ) → n ≡ word a r forwardAt → Ready b h (r ∷ ds) qs n

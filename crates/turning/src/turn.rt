@@ -8,6 +8,7 @@ ghost use Rattle.turning.specs.inside.Turning.{TakenOver, Turnable1, Tur
 use arena::sums::enter;
 use arena::sums::true_p;
 use arena::words::ADJUST;
+use arena::words::BACK;
 use arena::words::FORWARD;
 use arena::words::LEVEL;
 use arena::words::M;
@@ -49,7 +50,8 @@ fn turn_record(arena: &mut [u32], to: usize, r: usize, last: u32, sums: &mut [u3
 }
 
 // Turns the list of one head into that of another, which is made anew. The old head's words stay. The new head's first
-// forward is kept beside the arena and stored at the end.
+// forward is kept beside the arena and stored at the end. What came after a record comes before it then, and what was the
+// first item is the last.
 pub fn turn(arena: &mut [u32], from: usize, to: usize)
     requires { ⌜ ((rs : List ℕ) × Turnable (now arena) from to rs) ⌝ }
     ensures { λ _. ⌜ ((rs : List ℕ) → Turnable (now (arena .entry)) from to rs → Turned (now (arena .entry)) from to rs (now (arena .exit))) ⌝ }
@@ -57,14 +59,17 @@ pub fn turn(arena: &mut [u32], from: usize, to: usize)
     clear_head(arena, to);
     let mut sums = [0u32; 9];
     enter(arena, from, &mut sums);
-    let mut next = get(arena, from, FORWARD);
+    let first = get(arena, from, FORWARD);
+    let mut next = first;
     let mut last = 0;
     while next != 0 {
         let r = wide(next);
         let after = get(arena, r, FORWARD);
         turn_record(arena, to, r, last, &mut sums);
+        store(arena, r, BACK, after);
         last = next;
         next = after;
     }
     store(arena, to, FORWARD, last);
+    store(arena, to, BACK, first);
 }

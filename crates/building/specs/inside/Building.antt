@@ -6,6 +6,7 @@ use lib.ListN.{length}
 use Rattle.arena.specs.Arena.{word, level, mWord, pWord, forward, adjust, forwardAt, adjustAt}
 use Rattle.arena.specs.inside.Chain.{Has, put, Away, trues, Same}
 use Rattle.arena.specs.inside.Built.{Built}
+use Rattle.arena.specs.inside.Backs.{BacksKept}
 
 -- Link k of record r before what follows the head h: r takes the head's forward, and the head's forward is r.
 unfoldable pub hook1 : List ℕ → ℕ → ℕ → ℕ → List ℕ
@@ -23,6 +24,7 @@ pub record Hooked (l n : ℕ) (a : List ℕ) (h r : ℕ) (b : List ℕ) : Type 0
   pub new-adjust : (k : ℕ) → 1 ≤ k → l ≤ k → k < n → adjust b r k ≡ 0
   pub old-forward : (k : ℕ) → k < l → k < 8 → forward b r k ≡ forward a r k
   pub old-adjust : (k : ℕ) → k < l → k < 8 → adjust b r k ≡ adjust a r k
+  pub backs-kept : BacksKept a b
 
 -- The arena has the head h and another record r, whose number fits a word.
 pub record Hookable (a : List ℕ) (h r : ℕ) : Type 0 where

@@ -10,6 +10,7 @@ use Rattle.useful.specs.inside.Order.{listPlaces, orderWord}
 use Rattle.arena.specs.Arena.{stride, level, mWord, levelAt, mAt, pAt, forwardAt}
 use Rattle.arena.specs.inside.Chain.{Has, put, Away, trues, Same}
 use Rattle.arena.specs.inside.Built.{Built}
+use Rattle.arena.specs.inside.Backs.{Backed}
 use Rattle.building.specs.inside.Building.{Hooked}
 
 -- The records of a gauge's list, where the gauge's first printed size has the record `first`.
@@ -42,6 +43,7 @@ pub record Loaded (a : List ℕ) (head first : ℕ) (s : List Item) (levels b : 
   pub long : length b ≡ length a
   pub outside : (x : ℕ) → (x ≡ head → ⊥) → Away x (recordsOf first s) → Same a b x
   pub built : Built b head (recordsOf first s)
+  pub backed : Backed b head (recordsOf first s)
   pub level-is : map (level b) (recordsOf first s) ≡ map (λ (k : ℕ). getD levels k 0) (listPlaces s)
   pub m-is : map (mWord b) (recordsOf first s) ≡ map (λ (z : Item). z .m) (gaugeShapes s)
   pub true-p : trues b (λ k. 0) (recordsOf first s) ≡ map (λ (z : Item). z .p) (gaugeShapes s)

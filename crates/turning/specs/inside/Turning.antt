@@ -7,6 +7,7 @@ use Rattle.checks.specs.Limits.{mostSizes}
 use Rattle.arena.specs.Arena.{level, mWord, pWord, adjust, mAt, pAt, forwardAt}
 use Rattle.arena.specs.inside.Chain.{Has, put, All, Away, Linked, pUnder, trues, Same}
 use Rattle.arena.specs.inside.Built.{Built}
+use Rattle.arena.specs.inside.Backs.{Backed}
 use Rattle.building.specs.inside.Building.{Hooked, Hookable}
 use Rattle.arena.specs.inside.Sums.{Summable}
 
@@ -36,6 +37,7 @@ pub record Turned (a : List ℕ) (from to : ℕ) (rs b : List ℕ) : Type 0 wher
   pub long : length b ≡ length a
   pub outside : (x : ℕ) → (x ≡ to → ⊥) → Away x rs → Same a b x
   pub built : Built b to (reverse rs)
+  pub backed : Backed b to (reverse rs)
   pub levels : All (λ x. level b x ≡ level a x) rs
   pub m-is : map (mWord b) rs ≡ trues a (adjust a from) rs
   pub p-is : map (pWord b) rs ≡ map (mWord a) rs

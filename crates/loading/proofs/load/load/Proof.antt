@@ -3,15 +3,16 @@
 use borrow.Author.Needs.{needs}
 use Prim.Native.Nat.{_-_, _%_, _<_}
 use lib.ListN.{length}
-use Rattle.loading.proofs.Loads.{Loading, loading-start, loading-low, loading-high, loading-some, loading-place, loading-more, loading-done}
+use Rattle.loading.proofs.Loads.{Loading, loading-start, loading-low, loading-high, loading-some, loading-place, loading-after, loading-more, loading-done}
 use Rattle.loading.proofs.load.load.Statement.{statement}
 use Rattle.loading.proofs.load.load.Tie as tie
 
 abbrev Inv-loop : tie.InvT-loop
-Inv-loop arena₀ head first sizes levels order last₀ left₀ arena last left = Loading arena₀ head first sizes levels order arena last left
+Inv-loop arena₀ head first sizes levels order last₀ after₀ left₀ arena last after left =
+    Loading arena₀ head first sizes levels order arena last after left
 
 abbrev μ-loop : tie.MeasureT-loop
-μ-loop arena₀ head first sizes levels order last₀ left₀ arena last left = left
+μ-loop arena₀ head first sizes levels order last₀ after₀ left₀ arena last after left = left
 
 clear-head-requires : tie.Need-clear-head-requires Inv-loop μ-loop
 clear-head-requires c κs = search needs
@@ -26,7 +27,7 @@ module _ (c : tie.At-loop Inv-loop μ-loop) where
 
 module _ (c : tie.In-loop Inv-loop μ-loop) where
   named : c .before .loop .left % 16 - 1 < length (entry (c .before) .args .levels .now)
-  named = loading-place _ _ _ _ _ _ _ _ _ (c .before .loop .inv) (c .loop-test .taken)
+  named = loading-place _ _ _ _ _ _ _ _ _ _ (c .before .loop .inv) (c .loop-test .taken)
 
 cast-k : tie.Need-cast-k Inv-loop μ-loop
 cast-k c = search needs
@@ -60,14 +61,34 @@ load-record-requires c κs =
 cast-last : tie.Need-cast-last Inv-loop μ-loop
 cast-last c = let low = named (c .before .before .before .before .before .before .before) in search needs
 
+store-requires : tie.Need-store-requires Inv-loop μ-loop
+store-requires c κs =
+    let at-load-record = c .before .before .before in
+    let at-turn = at-load-record .before .before .before .before .before in
+    let has = loading-after _ _ _ _ _ _ _ _ _ _ (at-turn .before .loop .inv) in
+    search needs
+
 loop-less : tie.Need-loop-less Inv-loop μ-loop
 loop-less c = search needs
 
 loop-again : tie.Need-loop-again Inv-loop μ-loop
-loop-again c = search (needs, loading-more)
+loop-again c =
+    let at-store = c .before .before in
+    let at-load-record = at-store .before .before .before .before in
+    let at-size-in = at-load-record .before .before in
+    let at-word-of = at-size-in .before in
+    let at-turn = at-word-of .before .before in
+    loading-more _ _ _ _ _ _ _ _ _ _ (at-turn .before .loop .inv) (at-turn .loop-test .taken) _ _ _ (at-word-of .word-of .ensures .0) (at-size-in .size-in .ensures) (at-load-record .load-record .ensures) _ (at-store .store .ensures)
 
-store-requires : tie.Need-store-requires Inv-loop μ-loop
-store-requires c κs = search needs
+store-requires-2 : tie.Need-store-requires-2 Inv-loop μ-loop
+store-requires-2 c κs = search needs
+
+store-requires-3 : tie.Need-store-requires-3 Inv-loop μ-loop
+store-requires-3 c κs =
+    let at-store2 = c .before .before .before in
+    let at-loop = at-store2 .before .before .before in
+    let has = loading-after _ _ _ _ _ _ _ _ _ _ (at-loop .loop .inv) in
+    search needs
 
 same-length : tie.Need-same-length Inv-loop μ-loop
 same-length c = search needs
@@ -91,8 +112,10 @@ load-spec =
     add-r
     load-record-requires
     cast-last
+    store-requires
     loop-less
     loop-again
-    store-requires
+    store-requires-2
+    store-requires-3
     same-length
     returns)

@@ -9,10 +9,10 @@ use Rattle.turning.proofs.turn.turn.Statement.{statement}
 use Rattle.turning.proofs.turn.turn.Tie as tie
 
 abbrev Inv-loop : tie.InvT-loop
-Inv-loop arena₀ from to sums₀ next₀ last₀ arena sums next last = Turning arena₀ from to arena last sums next
+Inv-loop arena₀ from to sums₀ first next₀ last₀ arena sums next last = Turning arena₀ from to first arena last sums next
 
 abbrev μ-loop : tie.MeasureT-loop
-μ-loop arena₀ from to sums₀ next₀ last₀ arena sums next last = count 512 (put arena to forwardAt last) next
+μ-loop arena₀ from to sums₀ first next₀ last₀ arena sums next last = count 512 (put arena to forwardAt last) next
 
 clear-head-requires : tie.Need-clear-head-requires Inv-loop μ-loop
 clear-head-requires c κs = search needs
@@ -47,41 +47,59 @@ turn-record-requires c κs =
     let at-wide = c .before .before .before .before in
     let at-loop-test = at-wide .before in
     let at-loop = at-loop-test .before in
-    turning-can _ _ _ _ _ _ _ (at-loop .loop .inv) (at-loop-test .loop-test .taken) _ (at-wide .wide .ensures)
+    turning-can _ _ _ _ _ _ _ _ (at-loop .loop .inv) (at-loop-test .loop-test .taken) _ (at-wide .wide .ensures)
+
+store-requires : tie.Need-store-requires Inv-loop μ-loop
+store-requires c κs =
+    let at-turn-record = c .before .before .before .before in
+    let at-wide = at-turn-record .before .before .before .before .before in
+    let at-loop-test = at-wide .before in
+    let at-loop = at-loop-test .before in
+    let has = turning-has _ _ _ _ _ _ _ _ (at-loop .loop .inv) (at-loop-test .loop-test .taken) _ (at-wide .wide .ensures) in
+    search needs
 
 loop-less : tie.Need-loop-less Inv-loop μ-loop
 loop-less c =
-    let at-turn-record = c .before .before .before in
+    let at-store = c .before .before in
+    let at-turn-record = at-store .before .before .before .before .before in
     let at-get2 = at-turn-record .before .before .before in
     let at-wide = at-get2 .before .before in
     let at-loop-test = at-wide .before in
     let at-loop = at-loop-test .before in
-    turning-less _ _ _ _ _ _ _ (at-loop .loop .inv) (at-loop-test .loop-test .taken) _ (at-wide .wide .ensures) _ (at-get2 .get2 .ensures) _ (at-turn-record .turn-record .ensures .0)
+    turning-less _ _ _ _ _ _ _ _ (at-loop .loop .inv) (at-loop-test .loop-test .taken) _ (at-wide .wide .ensures) _ (at-get2 .get2 .ensures) _ (at-turn-record .turn-record .ensures .0) _ (at-store .store .ensures)
 
 loop-again : tie.Need-loop-again Inv-loop μ-loop
 loop-again c =
-    let at-turn-record = c .before .before .before in
+    let at-store = c .before .before in
+    let at-turn-record = at-store .before .before .before .before .before in
     let at-get2 = at-turn-record .before .before .before in
     let at-wide = at-get2 .before .before in
     let at-loop-test = at-wide .before in
     let at-loop = at-loop-test .before in
-    turning-more _ _ _ _ _ _ _ (at-loop .loop .inv) (at-loop-test .loop-test .taken) _ (at-wide .wide .ensures) _ (at-get2 .get2 .ensures) _ (at-turn-record .turn-record .ensures .0) _ (at-turn-record .turn-record .ensures .1) (search needs) (search needs)
+    turning-more _ _ _ _ _ _ _ _ (at-loop .loop .inv) (at-loop-test .loop-test .taken) _ (at-wide .wide .ensures) _ (at-get2 .get2 .ensures) _ (at-turn-record .turn-record .ensures .0) _ (at-store .store .ensures) _ (at-turn-record .turn-record .ensures .1) (search needs) (search needs)
 
-store-requires : tie.Need-store-requires Inv-loop μ-loop
-store-requires c κs = search (needs, turning-head)
+store-requires-2 : tie.Need-store-requires-2 Inv-loop μ-loop
+store-requires-2 c κs = search (needs, turning-head)
+
+store-requires-3 : tie.Need-store-requires-3 Inv-loop μ-loop
+store-requires-3 c κs =
+    let at-loop = c .before .before .before .before .before .before in
+    let has = turning-head _ _ _ _ _ _ _ _ (at-loop .loop .inv) in
+    search needs
 
 same-length : tie.Need-same-length Inv-loop μ-loop
 same-length c = search needs
 
 returns : tie.Need-returns Inv-loop μ-loop
 returns c =
-    let at-store = c .before .before in
-    let at-loop-test = at-store .before .before in
+    let at-store3 = c .before .before in
+    let at-store2 = at-store3 .before .before .before .before in
+    let at-loop-test = at-store2 .before .before in
     let at-loop = at-loop-test .before in
     let at-enter = at-loop .before .before .before .before in
     let at-clear-head = at-enter .before .before .before .before .before in
     let at-slice-known = at-clear-head .before .before in
-    turning-done _ _ _ _ _ _ _ _ (λ i. at-slice-known .slice-known .given i .fits) (at-clear-head .clear-head .ensures) (at-loop .loop .inv) (at-loop-test .loop-test .left) _ (at-store .store .ensures)
+    turning-done _ _ _ _ _ _ _ _ _ (λ i. at-slice-known .slice-known .given i .fits) (at-clear-head .clear-head .ensures) (at-loop .loop .inv) (at-loop-test .loop-test .left) _ _ (at-store2 .store2 .ensures) (at-store3 .store3 .ensures)
 
 pub turn-spec : {M : Type 1} → statement M
 turn-spec =
@@ -98,8 +116,10 @@ turn-spec =
     get-requires-2
     slice-aggregate-turn-record
     turn-record-requires
+    store-requires
     loop-less
     loop-again
-    store-requires
+    store-requires-2
+    store-requires-3
     same-length
     returns)
