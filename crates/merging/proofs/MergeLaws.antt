@@ -1,31 +1,35 @@
 -- The whole merge: the cleared result and the two lists are a merge on its way, and when it is over and closed the result holds the record-carrying merge.
--- Clearing the result's head touches no record of the two lists, and closing touches no value.
+-- Clearing the result's head touches no record of the two lists, closing touches no value, and the head's back word is the last record of the result.
 use mathlib.Core.Path.{_≡_, refl, sym, ap, ap₂, subst, _∙_}
 use mathlib.Core.List.{List, [], _∷_, List·Memᴰ, List·Memᴰ·head, List·Memᴰ·tail}
 use Prim.Native.Nat.{ℕ, _+_, _≤_, _<_}
 use native.Mathlib.Omega.{arith}
-use lib.ListN.{length, replicate, getD-replicate}
+use lib.ListN.{length, getD, replicate, getD-replicate}
 use Rattle.slicing.specs.Item.{Item, size}
 use Rattle.slicing.specs.Good.{Ordered}
 use Rattle.slicing.specs.Recorded.{Recorded, mergeRecorded, items}
-use Rattle.arena.specs.Arena.{mWord, adjust}
+use Rattle.arena.specs.Arena.{mWord, adjust, backAt}
 use Rattle.arena.specs.Lazy.{held}
-use Rattle.arena.specs.inside.Chain.{All, Away, Linked, Same, pUnder, after, trues}
+use Rattle.arena.specs.inside.Chain.{put, All, Away, Linked, Same, pUnder, after, trues}
 use Rattle.arena.specs.inside.Built.{Built}
+use Rattle.arena.specs.inside.Backs.{Backs, Inner, lastOf}
 use Rattle.building.specs.inside.Building.{Cleared}
 use Rattle.arena.specs.inside.Sums.{Suffixes}
 use Rattle.arena.specs.inside.Carried.{carried}
 use Rattle.arena.proofs.Frames.{all-map, all-both, all-refl, same-shape, linked-frame, trues-frame}
-use Rattle.arena.proofs.PutLaws.{same-trans}
+use Rattle.arena.proofs.PutLaws.{length-put, same-put, same-trans}
+use Rattle.arena.proofs.BackLaws.{backs-frame, inner-frame}
+use Rattle.arena.proofs.BackStores.{back-same, back-other, word-stays, value-stays, built-stays}
 use Rattle.arena.proofs.Summing.{suffixes-none, suffixes-agree}
 use Rattle.arena.proofs.CarriedLaws.{carried-frame, carried-same}
 use Rattle.arena.proofs.HeldLaws.{held-carried}
 use Rattle.searching.specs.inside.Cut.{Falling, Searchable}
 use Rattle.splicing.specs.inside.Open.{OpenLinked, EndsOf, Closed, lastSums}
-use Rattle.splicing.proofs.OpenLaws.{open-empty, ends-filled}
+use Rattle.splicing.proofs.OpenLaws.{open-empty, ends-filled, ends-last}
 use Rattle.splicing.proofs.ClosingLaws.{closed-value, closed-same}
 use Rattle.stepping.specs.inside.Trio.{Kept, Roomy, Trio}
 use Rattle.stepping.specs.inside.Running.{Task, Underway}
+use Rattle.stepping.proofs.ThreadLaws.{threads-end}
 use Rattle.merging.specs.inside.Runs.{Finished, RunsReady, RunsDone}
 use Rattle.merging.specs.inside.Merge.{Mergeable, Merged}
 
@@ -75,6 +79,9 @@ module _ (gap : ℕ) (a b : List ℕ) (ho hn hc : ℕ) (xs ys : List ℕ) (g : M
         record { some = omega arith; small = omega arith })
         records-same room
 
+  still-inner : (rs : List ℕ) → Away hc rs → Inner a rs → Inner b rs
+  still-inner rs away = inner-frame a b rs (all-map rs (λ x ne. c .outside x ne .at backAt (omega arith)) away)
+
   abbrev older-still : carried b (adjust b ho) xs ≡ held a ho [] xs
   older-still = carried-still ho xs (g .older-result) (g .result-off-older) (g .older .linked)
 
@@ -109,7 +116,7 @@ module _ (gap : ℕ) (a b : List ℕ) (ho hn hc : ℕ) (xs ys : List ℕ) (g : M
   task = record { arena = b; result = hc; older = xs; newer = ys; all = whole }
 
   begins : Underway task b ho hn (replicate 8 hc)
-  unfolding carried trues
+  unfolding carried trues lastOf
   begins =
       record {
         xs = xs;
@@ -140,40 +147,74 @@ module _ (gap : ℕ) (a b : List ℕ) (ho hn hc : ℕ) (xs ys : List ℕ) (g : M
                     records = λ x u v. (u, v, tt);
                     outside = λ x o n r u v. record { at = λ j few. refl };
                   };
+              threads =
+                  record {
+                    older = still-inner xs (g .result-off-older) (g .older-backs);
+                    newer = still-inner ys (g .result-off-newer) (g .newer-backs);
+                    result = tt;
+                    older-fits = g .older-fits;
+                    newer-fits = g .newer-fits;
+                    last-fits = g .result-fits;
+                  };
             };
       }
 
-  -- The runs were moved, and then the result was closed.
+  -- The runs were moved, then the result was closed, and then its head got its back word.
   module _ (d e ends : List ℕ) (f : Finished task d ho hn ends) (close : Closed d e hc (f .cs) ends) where
     abbrev cs : List ℕ
     cs = f .cs
 
+    abbrev v : ℕ
+    v = getD ends 0 0
+
+    abbrev z : List ℕ
+    z = put e hc backAt v
+
     sums-same : (k : ℕ) → k < 8 → adjust e hc k ≡ adjust d hc k
     sums-same k few = close .adjust-kept hc k few
 
-    result-holds : held e hc [] cs ≡ whole
+    carried-stays : carried z (adjust z hc) cs ≡ carried e (adjust e hc) cs
+    carried-stays =
+        carried-frame e z (adjust e hc) (adjust z hc) cs (λ x. word-stays e hc v x 1 (omega arith))
+        (trues-frame e z (adjust e hc) (adjust z hc) cs (λ k few. word-stays e hc v hc (11 + k) (omega arith)) (all-refl cs (value-stays e hc v)))
+
+    result-holds : held z hc [] cs ≡ whole
     result-holds =
-        held-carried e hc cs
+        held-carried z hc cs ∙ carried-stays
         ∙ carried-frame d e (adjust d hc) (adjust e hc) cs (close .m-kept)
         (trues-frame d e (adjust d hc) (adjust e hc) cs sums-same (all-refl cs (closed-value d e hc cs ends close)))
         ∙ f .gives
 
-    pub merged : Merged gap a e ho hn hc xs ys
+    result-built : Built z hc cs
+    result-built =
+        built-stays e hc v hc cs
+        (record {
+          linked = close .list;
+          still = λ k few. sums-same k few ∙ f .confined .result-sums k few ∙ c .built .still k few;
+        })
+
+    result-backs : Backs z hc cs
+    result-backs =
+        backs-frame d z hc cs (all-map cs (λ x ne. back-other e hc v x ne ∙ close .backs-kept x) (f .lists .result .away))
+        (f .threads .result)
+
+    pub merged : Merged gap a z ho hn hc xs ys
     merged =
         record {
-          length-kept = close .length-kept ∙ f .confined .length-kept ∙ c .long;
+          length-kept = length-put e hc backAt v ∙ close .length-kept ∙ f .confined .length-kept ∙ c .long;
           list = cs;
-          built =
-              record {
-                linked = close .list;
-                still = λ k few. sums-same k few ∙ f .confined .result-sums k few ∙ c .built .still k few;
-              };
+          built = result-built;
+          backs = result-backs;
+          last = back-same e hc v (close .list .has) ∙ ends-last d hc cs ends (f .lists .result) (f .lists .result-ends);
           holds = result-holds;
-          level-kept = λ x ne. close .level-kept x ∙ f .confined .level-kept x ∙ c .outside x ne .at 0 (omega arith);
-          records = λ x u v. f .confined .records x u v .2;
-          outside = λ x o n r u v.
-              same-trans a d e x (same-trans a b d x (c .outside x (λ t. r (sym t))) (f .confined .outside x o n r u v))
-              (closed-same d e hc cs ends close x (f .lists .result-ends) r (f .confined .records x u v .2));
+          level-kept = λ x ne.
+              word-stays e hc v x 0 (omega arith) ∙ close .level-kept x ∙ f .confined .level-kept x
+              ∙ c .outside x ne .at 0 (omega arith);
+          records = λ x u w. f .confined .records x u w .2;
+          outside = λ x o n r u w.
+              let runs = same-trans a b d x (c .outside x (λ t. r (sym t))) (f .confined .outside x o n r u w) in
+              let closes = closed-same d e hc cs ends close x (f .lists .result-ends) r (f .confined .records x u w .2) in
+              same-trans a e z x (same-trans a d e x runs closes) (same-put e hc backAt v x (λ t. r (sym t)) (omega arith));
         }
 
 -- The calls of the function are ready, and their promises give its own.
@@ -207,7 +248,13 @@ module _ (gap : ℕ) (a b : List ℕ) (ho hn : ℕ) (c : Cleared a 0 b) where
     merge-closes p =
         let f = finished (p .0) (p .1) (p .2) in (0, f .cs, f .lists .result, f .lists .result-ends)
 
-    pub merge-done : (e : List ℕ) → ((h : ℕ) (cs : List ℕ) → OpenLinked d h cs → EndsOf d h cs ends → Closed d e h cs ends) → (xs ys : List ℕ) → Mergeable gap a ho hn 0 xs ys → Merged gap a e ho hn 0 xs ys
-    merge-done e close xs ys g =
+    pub merge-end : ((xs : List ℕ) × (ys : List ℕ) × Mergeable gap a ho hn 0 xs ys) → getD ends 0 0 < 4_294_967_296
+    merge-end p =
+        let f = finished (p .0) (p .1) (p .2) in
+        threads-end d ho hn 0 (f .xs) (f .ys) (f .cs) ends (f .lists) (f .threads)
+
+    pub merge-done : (e z : List ℕ) → ((h : ℕ) (cs : List ℕ) → OpenLinked d h cs → EndsOf d h cs ends → Closed d e h cs ends) → z ≡ put e 0 backAt (getD ends 0 0) → (xs ys : List ℕ) → Mergeable gap a ho hn 0 xs ys → Merged gap a z ho hn 0 xs ys
+    merge-done e z close stored xs ys g =
         let f = finished xs ys g in
-        merged gap a b ho hn 0 xs ys g c (c .floor) d e ends f (close 0 (f .cs) (f .lists .result) (f .lists .result-ends))
+        subst (λ (y : List ℕ). Merged gap a y ho hn 0 xs ys) (sym stored)
+        (merged gap a b ho hn 0 xs ys g c (c .floor) d e ends f (close 0 (f .cs) (f .lists .result) (f .lists .result-ends)))

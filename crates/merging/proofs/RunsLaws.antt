@@ -116,6 +116,7 @@ module _ (gap : ℕ) (a a' : List ℕ) (ho hn : ℕ) (ends ends' : List ℕ) (mo
             (sym (nothing-left gap a' ho hn (t .result) (w .xs) (w .ys) (w .cs) ends' (sym m ∙ over) lists))
             ∙ w .merging .runs .gives;
         confined = w .merging .confined;
+        threads = w .merging .threads;
       }
 
   module _ (more-is : more ≡ true) where

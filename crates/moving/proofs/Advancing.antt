@@ -4,24 +4,29 @@ use mathlib.Core.Path.{_≡_, refl, sym, ap, subst, _∙_}
 use mathlib.Core.List.{List, _∷_, _++_, map}
 use Prim.Native.Nat.{ℕ, _+_, _-_, _≤_, _<_}
 use native.Mathlib.Omega.{arith}
-use lib.ListN.{length, getD}
-use Rattle.arena.specs.Arena.{level, adjust}
+use lib.ListN.{length, getD, drop}
+use Rattle.arena.specs.Arena.{level, forward, adjust, backAt}
 use Rattle.arena.specs.Lazy.{lastWith}
-use Rattle.arena.specs.inside.Chain.{wrap, All, Away, Linked, trues, leaving, Same, Shape, Value}
+use Rattle.arena.specs.inside.Chain.{Has, put, wrap, All, Away, Linked, trues, leaving, Same, Shape, Value}
+use Rattle.arena.specs.inside.Backs.{BacksKept}
 use Rattle.arena.specs.inside.Sums.{renewed, RenewedBelow}
 use Rattle.arena.proofs.Cases.{lt-or-ge}
-use Rattle.arena.proofs.ListLaws.{all-left, all-right, last-none, last-append, last-all, last-inside, leaving-last, trues-append, apart-from}
+use Rattle.arena.proofs.ListLaws.{all-left, all-right, last-none, last-append, last-all, last-inside, leaving-last, trues-append, apart-swap, apart-from}
 use Rattle.arena.proofs.Summing.{suffixes-agree, renewed-in, renewed-out}
 use Rattle.arena.proofs.PutLaws.{same-trans}
+use Rattle.arena.proofs.Walking.{next-first}
+use Rattle.arena.proofs.BackStores.{back-other}
 use Rattle.arena.proofs.Frames.{all-map, all-refl, all-both, same-value, next-frame, linked-frame, trues-frame, last-frame}
 use Rattle.searching.specs.inside.Cut.{front, behind, LinkCount, CutAt}
 use Rattle.searching.proofs.CutLaws.{front-behind, all-front}
+use Rattle.searching.proofs.SearchLaws.{front-in}
 use Rattle.splicing.specs.inside.Open.{Relinkable, Relinked, lastSums, cutSums}
-use Rattle.splicing.proofs.OpenLaws.{ends-frame}
+use Rattle.splicing.proofs.OpenLaws.{ends-frame, ends-last}
 use Rattle.splicing.proofs.RelinkLaws.{relinked-value, relinked-same}
 use Rattle.settling.specs.inside.Cached.{Cached}
 use Rattle.settling.specs.inside.Settled.{Ready, Settled}
-use Rattle.moving.specs.inside.Advance.{Movable, Moved}
+use Rattle.moving.specs.inside.Advance.{Movable, Moved, Run}
+use Rattle.moving.proofs.Threading.{moved-stored, way-stored, cached-stored}
 
 -- The list as it is cut.
 module _ (a : List ℕ) (h hc key : ℕ) (cs : List ℕ) (r : ℕ) (rs ends : List ℕ) (w : Movable a h hc key cs r rs ends) where
@@ -92,6 +97,7 @@ module _ (a : List ℕ) (h hc key : ℕ) (cs : List ℕ) (r : ℕ) (rs ends : Li
             cut-long = omega arith;
             cut-at = λ k e. c .at k e ∙ sym (last-frame a b k h fr (levels fr));
             sums-long = omega arith;
+            end-fits = w .end-fits;
           }
 
       -- After it was relinked as well, in the arena d.
@@ -172,7 +178,7 @@ module _ (a : List ℕ) (h hc key : ℕ) (cs : List ℕ) (r : ℕ) (rs ends : Li
             (λ is. last-inside a k (λ x. x ≡ h → ⊥) h fr (l .with-link k less) head-off (sym (c .at k less) ∙ is))
 
         -- So the sums that are kept are right again once those below link n are renewed.
-        pub moved-cached : (heads lasts heads' lasts' : List ℕ) → Cached a h ends heads lasts → RenewedBelow (cutSums sums) n heads heads' → RenewedBelow (lastSums b cut) n lasts lasts' → Cached d h ends' heads' lasts'
+        moved-cached : (heads lasts heads' lasts' : List ℕ) → Cached a h ends heads lasts → RenewedBelow (cutSums sums) n heads heads' → RenewedBelow (lastSums b cut) n lasts lasts' → Cached d h ends' heads' lasts'
         moved-cached heads lasts heads' lasts' k renews-head renews-ends =
             record {
               head =
@@ -196,7 +202,7 @@ module _ (a : List ℕ) (h hc key : ℕ) (cs : List ℕ) (r : ℕ) (rs ends : Li
         outside x off off-result off-cs off-fr =
             same-trans a b d x (s .outside x off-fr) (relinked-same b d h hc cs fr back cut sums ends ends' n can e x off off-result off-cs)
 
-        pub moved : Moved a d h hc q cs fr back ends'
+        moved : Moved a d h hc q cs fr back ends'
         moved =
             record {
               length-kept = e .length-kept ∙ s .length-kept;
@@ -210,3 +216,52 @@ module _ (a : List ℕ) (h hc key : ℕ) (cs : List ℕ) (r : ℕ) (rs ends : Li
               result-sums = hc-sums;
               outside = outside;
             }
+
+        -- And after the back word of its first record was stored, in the arena z.
+        module _ (z : List ℕ) (stored : z ≡ put d (forward b h 0) backAt (getD ends 0 0)) where
+          abbrev v : ℕ
+          v = getD ends 0 0
+
+          stored-first : z ≡ put d r backAt v
+          stored-first =
+              let top = w .list .linked .top in
+              stored
+              ∙ ap (λ (x : ℕ). put d x backAt v)
+              (s .shape h .forward-kept 0 (omega arith) ∙ w .list .linked .links .at 0 (omega arith) ∙ next-first a r rs (w .list .linked .chain .0))
+
+          run-first : fr ≡ r ∷ front a key rs
+          run-first = front-in a key r rs (w .first)
+
+          in-run : (x : ℕ) → Away x fr → x ≡ r → ⊥
+          in-run x away e = subst (λ (l : List ℕ). Away x l) run-first away .0 (sym e)
+
+          kept : BacksKept a d
+          kept x = e .backs-kept x ∙ s .backs-kept x
+
+          split : r ∷ rs ≡ r ∷ (front a key rs ++ back)
+          split = whole ∙ ap (λ (l : List ℕ). l ++ back) run-first
+
+          off : Away r (front a key rs ++ back)
+          off = subst (λ (l : List ℕ). Away r (drop 1 l)) split (w .list .linked .chain .0 .away)
+
+          off-cs : Away r cs
+          off-cs = apart-swap cs (r ∷ rs) (w .apart) .0
+
+          has-first : Has d r
+          has-first = let has = w .list .linked .chain .0 .has in let one = e .length-kept in let two = s .length-kept in omega arith
+
+          pub run : Run a z h hc key q cs (r ∷ rs) ends'
+          run =
+              subst (λ (y : List ℕ). Run a y h hc key q cs (r ∷ rs) ends') (sym stored-first)
+              (record {
+                moved = moved-stored d r v a h hc q cs fr back ends' moved in-run;
+                backs-off = λ x away. back-other d r v x (in-run x away) ∙ kept x;
+                way-back =
+                    way-stored d r v a h hc q cs fr back ends' moved kept (front a key rs) run-first has-first off off-cs
+                    (ends-last a hc cs ends (w .result) (w .result-ends));
+              })
+
+          pub run-cached : (heads lasts heads' lasts' : List ℕ) → Cached a h ends heads lasts → RenewedBelow (cutSums sums) n heads heads' → RenewedBelow (lastSums b cut) n lasts lasts' → Cached z h ends' heads' lasts'
+          run-cached heads lasts heads' lasts' k renews-head renews-ends =
+              subst (λ (y : List ℕ). Cached y h ends' heads' lasts') (sym stored)
+              (cached-stored d (forward b h 0) v h ends' heads' lasts' (moved-cached heads lasts heads' lasts' k renews-head renews-ends))

@@ -1,3 +1,4 @@
+pub mod Threading
 pub mod Advancing
 pub mod RunLaws
 pub mod OneLaws

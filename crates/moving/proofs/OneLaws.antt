@@ -16,12 +16,12 @@ use Rattle.arena.proofs.PutLaws.{word-other-field}
 use Rattle.searching.specs.inside.Cut.{front, LinkCount, CutAt, passes, Reachable, behind}
 use Rattle.searching.proofs.SearchLaws.{front-in}
 use Rattle.searching.proofs.Passing.{next-reach, front-none}
-use Rattle.splicing.specs.inside.Open.{Relinkable, Relinked, lastSums, cutSums}
+use Rattle.splicing.specs.inside.Open.{Relinkable, Spliced, lastSums, cutSums}
 use Rattle.settling.specs.inside.Settled.{headSums, Settled}
 use Rattle.settling.specs.inside.Cached.{Cached, MakesUp}
 use Rattle.settling.proofs.Raising.{Raised, p-raised}
-use Rattle.moving.specs.inside.Advance.{Movable, MovedFront}
-use Rattle.moving.proofs.Advancing.{can-relink, moved, moved-cached}
+use Rattle.moving.specs.inside.Advance.{Movable, Run}
+use Rattle.moving.proofs.Advancing.{can-relink, run, run-cached}
 use Rattle.moving.proofs.RunLaws.{raised-one}
 
 module _ (a : List ℕ) (h hc key : ℕ) (cs : List ℕ) (x : ℕ) (rs ends : List ℕ) (w : Movable a h hc key cs x rs ends) (stops : passes a (forward a x 0) key ≡ false) where
@@ -70,6 +70,7 @@ module _ (a : List ℕ) (h hc key : ℕ) (cs : List ℕ) (x : ℕ) (rs ends : Li
         (record {
           length-kept = raised .length-kept;
           shape = raised .shape;
+          backs-kept = raised .backs-kept;
           outside = λ y away. raised .other y (λ e. away .0 (sym e));
           values = ap (λ (p : ℕ). p ∷ []) value;
         })
@@ -162,11 +163,11 @@ module _ (a : List ℕ) (h hc key : ℕ) (cs : List ℕ) (r : ℕ) (rs ends : Li
         pub first-relinkable : Relinkable b h hc cs (front a key (x ∷ rs)) (behind a key (x ∷ rs)) cut found ends n
         first-relinkable = can-relink a h hc key cs x rs ends first n counted cut found is-cut q b settled
 
-        module _ (d ends' : List ℕ) (e : Relinked b d h hc cs (front a key (x ∷ rs)) (behind a key (x ∷ rs)) cut found ends ends' n) where
-          pub first-moved : MovedFront a d h hc key q cs (r ∷ rs) ends'
+        module _ (z ends' : List ℕ) (e : Spliced b z h hc cs (front a key (x ∷ rs)) (behind a key (x ∷ rs)) cut found ends ends' n) where
+          pub first-moved : Run a z h hc key q cs (r ∷ rs) ends'
           first-moved =
-              subst (λ (y : ℕ). MovedFront a d h hc key q cs (y ∷ rs) ends') (first-is a h hc key cs r rs ends w x x-is)
-              (moved a h hc key cs x rs ends first n counted cut found is-cut q b settled d ends' e)
+              subst (λ (y : ℕ). Run a z h hc key q cs (y ∷ rs) ends') (first-is a h hc key cs r rs ends w x x-is)
+              (run a h hc key cs x rs ends first n counted cut found is-cut q b settled (e .links) ends' (e .relinked) z (e .stored))
 
-          pub first-cached : (heads lasts heads' lasts' : List ℕ) → Cached a h ends heads lasts → RenewedBelow (cutSums found) n heads heads' → RenewedBelow (lastSums b cut) n lasts lasts' → Cached d h ends' heads' lasts'
-          first-cached = moved-cached a h hc key cs x rs ends first n counted cut found is-cut q b settled d ends' e
+          pub first-cached : (heads lasts heads' lasts' : List ℕ) → Cached a h ends heads lasts → RenewedBelow (cutSums found) n heads heads' → RenewedBelow (lastSums b cut) n lasts lasts' → Cached z h ends' heads' lasts'
+          first-cached = run-cached a h hc key cs x rs ends first n counted cut found is-cut q b settled (e .links) ends' (e .relinked) z (e .stored)

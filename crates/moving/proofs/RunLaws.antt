@@ -1,16 +1,18 @@
 -- A run without link 1, walked along and relinked at link 0, stands behind the open list as a run that was cut and settled.
 -- Each of its records has level 1, so that its true p is its p and one sum, that of the links from 1 up: link 0 counts for no record.
 use mathlib.Core.Path.{_≡_, refl, sym, ap, ap₂, subst, _∙_}
-use mathlib.Core.Bool.{Bool, false}
+use mathlib.Core.Bool.{Bool, true, false, _&&_}
 use mathlib.Core.List.{List, [], _∷_, _++_, map}
-use Prim.Native.Nat.{ℕ, _+_, _%_, _^_, _≤_}
+use Prim.Native.Nat.{ℕ, _+_, _%_, _^_, _≤_, _<_}
 use native.Mathlib.Nat.{mod-add-mod}
 use native.Mathlib.Omega.{arith}
 use borrow.Author.Count.{below-more}
+use lib.Dec.{leb}
 use lib.ListN.{getD, set, replicate}
-use Rattle.arena.specs.Arena.{word, level, pWord, forward, adjust}
+use borrow.Author.Tests.{le-leb}
+use Rattle.arena.specs.Arena.{word, level, mWord, pWord, forward, adjust, backAt}
 use Rattle.arena.specs.Lazy.{nextWith, sumFrom}
-use Rattle.arena.specs.inside.Chain.{Has, wrap, All, pUnder, after, trues, closed}
+use Rattle.arena.specs.inside.Chain.{Has, put, wrap, All, pUnder, after, trues, closed}
 use Rattle.arena.proofs.SumLaws.{sum-agree, add-both}
 use Rattle.arena.proofs.Frames.{all-both, all-refl, chain-low, after-out, next-here}
 use Rattle.arena.proofs.ListLaws.{all-left}
@@ -18,13 +20,13 @@ use Rattle.arena.proofs.Summing.{renew-none}
 use Rattle.searching.specs.inside.Cut.{front, LinkCount, CutAt, passes, behind}
 use Rattle.searching.specs.inside.Walk.{Walked}
 use Rattle.searching.proofs.SearchLaws.{front-in, none-in-front}
-use Rattle.splicing.specs.inside.Open.{relinkOne, Relinkable, Relinked, lastSums, cutSums}
+use Rattle.splicing.specs.inside.Open.{relinkOne, relinkLowest, Relinkable, Relinked, lastSums, cutSums}
 use Rattle.splicing.proofs.RelinkWords.{Rewired, Ready, Replaced, rewired-none, rewired-turn, replaced-none, replaced-turn}
-use Rattle.splicing.proofs.RelinkLaws.{ready, relinked}
+use Rattle.splicing.proofs.RelinkLaws.{first-has, ready, relinked}
 use Rattle.settling.specs.inside.Settled.{headSums, Settled}
 use Rattle.settling.specs.inside.Cached.{Cached, MakesUp}
-use Rattle.moving.specs.inside.Advance.{Movable, Moved}
-use Rattle.moving.proofs.Advancing.{linked, can-relink, moved, moved-cached}
+use Rattle.moving.specs.inside.Advance.{Movable, Run}
+use Rattle.moving.proofs.Advancing.{linked, can-relink, run, run-cached}
 
 -- A record of level 1 leaves the sum from link 1 up as it was.
 sum-kept : (a : List ℕ) (f : ℕ → ℕ) (r : ℕ) → level a r ≤ 1 → sumFrom (after a f r) 1 8 ≡ sumFrom f 1 8
@@ -69,6 +71,15 @@ module _ (a : List ℕ) (h hc key : ℕ) (cs : List ℕ) (r : ℕ) (rs ends : Li
   abbrev back : List ℕ
   back = behind a key (r ∷ rs)
 
+  -- The first record passes.
+  pub first-passes : passes a (forward a h 0) key ≡ true
+  unfolding passes
+  first-passes =
+      let top = w .list .linked .top in
+      let member = w .list .linked .chain .0 in
+      ap (λ (x : ℕ). leb 1 x && leb key (mWord a x)) (w .list .linked .links .at 0 (omega arith) ∙ next-here a 0 r rs (member .low))
+      ∙ rw (le-leb 1 r (member .some), le-leb key (mWord a r) (w .first)) refl
+
   module _ (stops : passes a (forward a h 1) key ≡ false) where
     lows : All (λ x. level a x ≤ 1) fr
     lows =
@@ -89,6 +100,7 @@ module _ (a : List ℕ) (h hc key : ℕ) (cs : List ℕ) (r : ℕ) (rs ends : Li
           record {
             length-kept = walked .length-kept;
             shape = walked .shape;
+            backs-kept = walked .backs-kept;
             outside = walked .outside;
             values =
                 low-raised a b (headSums a h) (lastSums a ends) v q made fr ones
@@ -136,14 +148,25 @@ module _ (a : List ℕ) (h hc key : ℕ) (cs : List ℕ) (r : ℕ) (rs ends : Li
       pub run-has : Has b h × Has b (getD ends 0 0) × Has b to
       run-has = (is-ready .head, is-ready .from 0 (omega arith), is-ready .to 0 (omega arith))
 
-      module _ (s : ℕ) (s-is : s ≡ word b to 11) (c : List ℕ) (relinks : c ≡ relinkOne b h (getD ends 0 0) to 0 s) where
+      pub run-first : Has b (forward b h 0) × (getD ends 0 0 < 4_294_967_296)
+      run-first = (first-has b h hc cs fr back cut sums ends 1 can, w .end-fits)
+
+      module _ (s : ℕ) (s-is : s ≡ word b to 11) (z : List ℕ) (relinks : z ≡ relinkLowest b h (getD ends 0 0) to s) where
+        -- The arena before the back word is stored.
+        abbrev c : List ℕ
+        c = relinkOne b h (getD ends 0 0) to 0 s
+
+        stored : z ≡ put c (forward b h 0) backAt (getD ends 0 0)
+        unfolding relinkLowest
+        stored = relinks
+
         same-sum : s ≡ getD sums 0 0
         same-sum = s-is ∙ walked .adjust-kept to 0 (omega arith)
 
         rewired : Rewired b c h cut sums ends 0 1
         rewired =
             subst (λ (l : List ℕ). Rewired b l h cut sums ends 0 1)
-            (sym (relinks ∙ ap (relinkOne b h (getD ends 0 0) to 0) same-sum))
+            (sym (ap (relinkOne b h (getD ends 0 0) to 0) same-sum))
             (rewired-turn b b h cut sums ends 0 1 (omega arith) is-ready (rewired-none b h cut sums ends 1))
 
         replaced : Replaced cut ends (set ends 0 to) 0 1
@@ -154,11 +177,11 @@ module _ (a : List ℕ) (h hc key : ℕ) (cs : List ℕ) (r : ℕ) (rs ends : Li
         relinks-all : Relinked b c h hc cs fr back cut sums ends (set ends 0 to) 1
         relinks-all = relinked b h hc cs fr back cut sums ends 1 can c rewired (set ends 0 to) replaced
 
-        pub run-moved : Moved a c h hc q cs fr back (set ends 0 to)
+        pub run-moved : Run a z h hc key q cs (r ∷ rs) (set ends 0 to)
         run-moved =
-            moved a h hc key cs r rs ends w 1 one-link cut sums is-cut q b settled c (set ends 0 to) relinks-all
+            run a h hc key cs r rs ends w 1 one-link cut sums is-cut q b settled c (set ends 0 to) relinks-all z stored
 
-        pub run-cached : (heads lasts : List ℕ) → Cached a h ends heads lasts → Cached c h (set ends 0 to) heads lasts
-        run-cached heads lasts k =
-            moved-cached a h hc key cs r rs ends w 1 one-link cut sums is-cut q b settled c (set ends 0 to) relinks-all
+        pub walk-cached : (heads lasts : List ℕ) → Cached a h ends heads lasts → Cached z h (set ends 0 to) heads lasts
+        walk-cached heads lasts k =
+            run-cached a h hc key cs r rs ends w 1 one-link cut sums is-cut q b settled c (set ends 0 to) relinks-all z stored
             heads lasts heads lasts k (λ f. renew-none (cutSums sums) f heads) (λ f. renew-none (lastSums b cut) f lasts)

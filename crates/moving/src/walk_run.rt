@@ -9,7 +9,7 @@ use arena::words::ADJUST;
 use arena::words::get;
 use searching::walk::walk;
 use settling::lift::lift;
-use splicing::relink::relink_one;
+use splicing::relink::relink_lowest;
 
 // Moves the records in front of a list, none of which has link 1, behind an open list. Their sums from link 1 up are
 // those of the head before and those of the ends after, and link 0 counts for no true p, so that all are raised alike.
@@ -31,6 +31,6 @@ pub fn walk_run(
     let v = lift(q, sums, lasts, 1);
     let to = walk(arena, head, key, v);
     let sum = get(arena, to, ADJUST);
-    relink_one(arena, head, ends[0], to, 0, sum);
+    relink_lowest(arena, head, ends[0], to, sum);
     ends[0] = to;
 }

@@ -1,15 +1,17 @@
 -- What the walk along a front keeps: the records passed are in front and raised, and the rest of the arena is as it was.
 -- A turn raises the p of one record more, and where the next one does not pass, those passed are the whole front.
 use mathlib.Core.Path.{_≡_, refl, sym, ap, subst, _∙_}
-use mathlib.Core.Bool.{true, false, _&&_}
+use mathlib.Core.Bool.{Bool, true, false, _&&_}
 use mathlib.Core.List.{List, [], _∷_, _++_, append-nil, append-assoc}
-use Prim.Native.Nat.{ℕ, _+_, _≤_, _<_}
+use Prim.Native.Nat.{ℕ, zero, suc, _+_, _*_, _%_, _^_, _≤_, _<_}
 use native.Mathlib.Omega.{arith}
-use lib.ListN.{length, length-append}
+use lib.ListN.{length, getD, set, length-append}
 use lib.Dec.{leb}
-use Rattle.arena.specs.Arena.{word, mWord, pWord, adjust}
+use borrow.Author.Tests.{le-leb, lt-leb}
+use Rattle.arena.specs.Arena.{stride, word, mWord, pWord, forward, adjust, backAt}
 use Rattle.arena.specs.Lazy.{nextWith, lastWith}
 use Rattle.arena.specs.inside.Chain.{Has, put, wrap, All, Away, Member, Chain, Same, Shape}
+use Rattle.arena.specs.inside.Backs.{BacksKept}
 use Rattle.arena.proofs.ListLaws.{last-here, last-append, all-left, all-right, all-append, chain-right, jump, apart-from}
 use Rattle.arena.proofs.PutLaws.{length-put, word-same, word-other-record, word-other-field, same-refl, same-put, same-trans}
 use Rattle.arena.proofs.Cases.{lt-or-ge}
@@ -67,6 +69,7 @@ pub record Passing (a₀ a : List ℕ) (h key v cur next : ℕ) : Type 0 where
   pub tops : All (λ x. key ≤ mWord a₀ x) ps
   pub length-kept : length a ≡ length a₀
   pub shape : (x : ℕ) → Shape a₀ a x
+  pub backs-kept : BacksKept a₀ a
   pub adjust-kept : (x k : ℕ) → k < 8 → adjust a x k ≡ adjust a₀ x k
   pub outside : (x : ℕ) → Away x ps → Same a₀ a x
   pub raised : All (λ x. pWord a x ≡ wrap (pWord a₀ x) v) ps
@@ -86,6 +89,7 @@ passing-start a h key v next w (rs, s) w-is e =
       tops = tt;
       length-kept = refl;
       shape = λ x. record { level-kept = refl; m-kept = refl; forward-kept = λ k p. refl };
+      backs-kept = λ x. refl;
       adjust-kept = λ x k p. refl;
       outside = λ x away. same-refl a x;
       raised = tt;
@@ -148,7 +152,7 @@ module _ (a₀ a : List ℕ) (h key v cur next : ℕ) (g : Passing a₀ a h key 
 
     -- The turn as the code makes it: the p raised, and the next record read.
     module _ (b : List ℕ) (n w : ℕ) (raised : b ≡ put a next 2 (wrap (word a next 2) v)) (read : w ≡ word b next 3) (is : n ≡ w) where
-      lifted-field : (x j : ℕ) → j < 19 → (j ≡ 2 → ⊥) → word b x j ≡ word a x j
+      lifted-field : (x j : ℕ) → j < stride → (j ≡ 2 → ⊥) → word b x j ≡ word a x j
       lifted-field x j few ne =
           ap (λ (l : List ℕ). word l x j) raised ∙ word-other-field a next 2 _ x j ne (omega arith) few
 
@@ -205,6 +209,7 @@ module _ (a₀ a : List ℕ) (h key v cur next : ℕ) (g : Passing a₀ a h key 
                   m-kept = lifted-field x 1 (omega arith) (omega arith) ∙ s .m-kept;
                   forward-kept = λ k e. lifted-field x (3 + k) (omega arith) (omega arith) ∙ s .forward-kept k e;
                 };
+            backs-kept = λ x. lifted-field x backAt (omega arith) (omega arith) ∙ g .backs-kept x;
             adjust-kept = λ x k e. lifted-field x (11 + k) (omega arith) (omega arith) ∙ g .adjust-kept x k e;
             outside = λ x away.
                 let far = all-split x away in
@@ -232,8 +237,107 @@ module _ (a₀ a : List ℕ) (h key v cur next : ℕ) (g : Passing a₀ a h key 
       record {
         length-kept = g .length-kept;
         shape = g .shape;
+        backs-kept = g .backs-kept;
         adjust-kept = g .adjust-kept;
         outside = λ x away. g .outside x (subst (Away x) (sym all) away);
         raised = subst (All (λ x. pWord a x ≡ wrap (pWord a₀ x) v)) all (g .raised);
         last = g .cur-is ∙ ap (lastWith a₀ 0 h) all;
       }
+
+-- A record or 0 whose m is at least a key is a record, and passes.
+passes-so : (a : List ℕ) (x key : ℕ) → Reachable a x → 1 ≤ key → key ≤ mWord a x → true ≡ passes a x key
+unfolding passes
+passes-so a x key reach some high =
+    lt-or-ge 0 x (λ more. sym (rw (le-leb 1 x more, le-leb key (mWord a x) high)))
+    (λ none.
+    let zero-is : x ≡ 0 = omega arith in
+    let floor : mWord a x ≡ 0 = ap (mWord a) zero-is ∙ reach .floor in
+    absurd (omega arith))
+
+passes-not : (a : List ℕ) (x key : ℕ) → mWord a x < key → false ≡ passes a x key
+unfolding passes
+passes-not a x key low = sym (ap (λ (b : Bool). leb 1 x && b) (lt-leb key (mWord a x) low) ∙ none (leb 1 x))
+  where
+    none : (b : Bool) → (b && false) ≡ false
+    none true = refl
+    none false = refl
+
+-- The walk by the first link hangs on the forwards alone.
+count-frame : (most : ℕ) (a b : List ℕ) (x : ℕ) → ((y : ℕ) → forward b y 0 ≡ forward a y 0) → count most b x ≡ count most a x
+count-frame zero a b x same = refl
+count-frame (suc most) a b zero same = refl
+count-frame (suc most) a b (suc x) same =
+    ap suc (count-frame most a b (forward b (suc x) 0) same ∙ ap (count most a) (same (suc x)))
+
+-- The walk as the code makes it, from the arena b₀, in which the first record is raised: `at` is the place where the next record starts.
+pub record Onward (b₀ : List ℕ) (h key v cur₀ next₀ : ℕ) (b : List ℕ) (cur next at : ℕ) : Type 0 where
+  pub onward : (a : List ℕ) → Passing a b₀ h key v cur₀ next₀ → Passing a b h key v cur next
+  pub some : 1 ≤ key
+  pub at-is : at ≡ stride * next
+  pub room : at + stride ≤ length b
+  pub length-kept : length b ≡ length b₀
+
+module _ (a : List ℕ) (h key v first w : ℕ) (pre : ((rs : List ℕ) × Searchable a h rs) × (1 ≤ key)) (passing : passes a (forward a h 0) key ≡ true) (w-is : w ≡ word a h 3) (first-is : first ≡ w) where
+  start : Passing a a h key v h first
+  start = passing-start a h key v first w (pre .0) w-is first-is
+
+  passes-first : true ≡ passes a first key
+  passes-first = sym (ap (λ (x : ℕ). passes a x key) (first-is ∙ w-is) ∙ passing)
+
+  pub first-has : Has a first
+  first-has = passing-has a a h key v h first start passes-first
+
+  module _ (b₀ : List ℕ) (n₀ u₀ : ℕ) (raised : b₀ ≡ put a first 2 (wrap (word a first 2) v)) (read : u₀ ≡ word b₀ first 3) (is : n₀ ≡ u₀) where
+    -- The first record has passed.
+    begun : Passing a b₀ h key v first n₀
+    begun = passing-more a a h key v h first start passes-first b₀ n₀ u₀ raised read is
+
+    pub onward-start : (at : ℕ) → at ≡ stride * n₀ → Onward b₀ h key v first n₀ b₀ first n₀ at
+    onward-start at at-is =
+        let has = passing-reach a b₀ h key v first n₀ begun .has in
+        record { onward = λ c g. g; some = pre .1; at-is = at-is; room = omega arith; length-kept = refl }
+
+    -- A turn.
+    module _ (b : List ℕ) (cur next at : ℕ) (g : Onward b₀ h key v first n₀ b cur next at) where
+      m-at : getD b (at + 1) 0 ≡ mWord b next
+      unfolding word
+      m-at = ap (λ (i : ℕ). getD b (i + 1) 0) (g .at-is)
+
+      module _ (high : key ≤ getD b (at + 1) 0) where
+        goes : true ≡ passes b next key
+        goes = let same = m-at in passes-so b next key (passing-reach a b h key v cur next (g .onward a begun)) (g .some) (omega arith)
+
+        module _ (c : List ℕ) (x n u : ℕ) (sum : x ≡ (getD b (at + 2) 0 + v) % 2 ^ 32) (written : c ≡ set b (at + 2) x) (read-next : u ≡ getD c (at + 3) 0) (next-is : n ≡ u) where
+          raises : c ≡ put b next 2 (wrap (word b next 2) v)
+          unfolding put word wrap
+          raises =
+              written ∙ ap (set b (at + 2)) sum
+              ∙ ap (λ (i : ℕ). set b (i + 2) ((getD b (i + 2) 0 + v) % 2 ^ 32)) (g .at-is)
+
+          reads : u ≡ word c next 3
+          unfolding word
+          reads = read-next ∙ ap (λ (i : ℕ). getD c (i + 3) 0) (g .at-is)
+
+          further : (d : List ℕ) → Passing d b₀ h key v first n₀ → Passing d c h key v next n
+          further d start-d = passing-more d b h key v cur next (g .onward d start-d) goes c n u raises reads next-is
+
+          pub onward-less : count 512 b₀ n < count 512 b₀ next
+          onward-less =
+              let same : (y : ℕ) → forward b₀ y 0 ≡ forward a y 0 = λ y. begun .shape y .forward-kept 0 (omega arith) in
+              let old = count-frame 512 a b₀ next same in
+              let new = count-frame 512 a b₀ n same in
+              let less = passing-less a b h key v cur next (g .onward a begun) goes c n u raises reads next-is in
+              omega arith
+
+          pub onward-more : (to : ℕ) → to ≡ stride * n → Onward b₀ h key v first n₀ c next n to
+          onward-more to to-is =
+              let after = further a begun in
+              let has = passing-reach a c h key v next n after .has in
+              let one = after .length-kept in
+              let two = begun .length-kept in
+              record { onward = further; some = g .some; at-is = to-is; room = omega arith; length-kept = omega arith }
+
+      pub onward-done : getD b (at + 1) 0 < key → (rs : List ℕ) → Searchable a h rs → Walked a b h key v rs cur
+      onward-done low rs s =
+          let same = m-at in
+          passing-done a b h key v cur next (g .onward a begun) (passes-not b next key (omega arith)) rs s

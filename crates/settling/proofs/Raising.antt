@@ -8,8 +8,9 @@ use native.Mathlib.Omega.{arith}
 use lib.ListN.{length, length-append}
 use lib.Dec.{ltb, eqb}
 use borrow.Author.Tests.{lt-ltb, le-ltb, eq-eqb, ne-eqb}
-use Rattle.arena.specs.Arena.{stride, word, level, forward}
+use Rattle.arena.specs.Arena.{stride, word, level, forward, backAt}
 use Rattle.arena.specs.inside.Chain.{Has, put, wrap, All, Away, Same, Shape}
+use Rattle.arena.specs.inside.Backs.{BacksKept}
 use Rattle.arena.proofs.Cases.{lt-or-ge}
 use Rattle.arena.proofs.ListLaws.{all-right}
 use Rattle.arena.proofs.PutLaws.{length-put, word-same, word-other-field, same-refl, same-put, same-trans}
@@ -84,6 +85,7 @@ stretch-right a k stop (x ∷ xs) ys s = stretch-right a k stop xs ys (s .1)
 pub record Raised (a b : List ℕ) (k v r : ℕ) : Type 0 where
   pub length-kept : length b ≡ length a
   pub shape : (x : ℕ) → Shape a b x
+  pub backs-kept : BacksKept a b
   pub other : (x : ℕ) → (x ≡ r → ⊥) → Same a b x
   pub p-up : word b r 2 ≡ wrap (word a r 2) v
   pub adjust-up : 1 ≤ k → word b r (11 + k) ≡ wrap (word a r (11 + k)) v
@@ -107,6 +109,7 @@ module _ (a : List ℕ) (v r : ℕ) (has : Has a r) where
               m-kept = p-field x 1 (omega arith) (omega arith);
               forward-kept = λ j h. p-field x (3 + j) (omega arith) (omega arith);
             };
+        backs-kept = λ x. p-field x backAt (omega arith) (omega arith);
         other = λ x e. same-put a r 2 _ x e (omega arith);
         p-up = word-same a r 2 _ has (omega arith);
         adjust-up = λ some. absurd (omega arith);
@@ -134,6 +137,7 @@ module _ (a : List ℕ) (k v r : ℕ) (small : k < 8) (has : Has a r) where
               m-kept = both-field x 1 (omega arith) (omega arith) (omega arith);
               forward-kept = λ j h. both-field x (3 + j) (omega arith) (omega arith) (omega arith);
             };
+        backs-kept = λ x. both-field x backAt (omega arith) (omega arith) (omega arith);
         other = λ x e.
             same-trans a (raisedP a v r has) raisedBoth x (low .other x e)
             (same-put (raisedP a v r has) r (11 + k) _ x e (omega arith));
@@ -202,6 +206,7 @@ module _ (a t b : List ℕ) (k v stop r : ℕ) (small : k < 8) (u : Raised a t k
               m-kept = s2 .m-kept ∙ s1 .m-kept;
               forward-kept = λ j h. s2 .forward-kept j h ∙ s1 .forward-kept j h;
             };
+        backs-kept = λ x. l .backs-kept x ∙ u .backs-kept x;
         outside = λ x away.
             let far = all-right (λ y. y ≡ x → ⊥) before (r ∷ after) away in
             same-trans a t b x (u .other x (λ e. far .0 (sym e))) (l .outside x (far .1));
@@ -217,6 +222,7 @@ lifting-none a k v rs low =
     record {
       length-kept = refl;
       shape = λ x. record { level-kept = refl; m-kept = refl; forward-kept = λ j h. refl };
+      backs-kept = λ x. refl;
       outside = λ x away. same-refl a x;
       each = lifted-none a k v rs low;
     }

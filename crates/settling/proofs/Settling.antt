@@ -12,6 +12,7 @@ use Rattle.arena.specs.Arena.{word, level}
 use Rattle.arena.specs.Lazy.{nextWith, sumFrom}
 use Rattle.arena.specs.inside.Sums.{Suffixes}
 use Rattle.arena.specs.inside.Chain.{Has, wrap, All, Away, Chain, Linked, trues, leaving, Same, Shape, Value, closed}
+use Rattle.arena.specs.inside.Backs.{BacksKept}
 use Rattle.arena.proofs.Cases.{lt-or-ge}
 use Rattle.arena.proofs.ListLaws.{last-none, all-left, last-forward, apart-from}
 use Rattle.arena.proofs.PutLaws.{same-refl, same-trans}
@@ -47,6 +48,7 @@ Owed a₀ b head i carry q ends front low rest =
 
 pub record Left (a₀ b : List ℕ) (head i stop q : ℕ) (ends front back : List ℕ) : Type 0 where
   pub shape : (x : ℕ) → Shape a₀ b x
+  pub backs-kept : BacksKept a₀ b
   pub outside : (x : ℕ) → Away x front → Same a₀ b x
   pub part : Parts b i front
   pub stop-is : stop ≡ nextWith b (i - 1) (part .rest ++ back)
@@ -75,6 +77,7 @@ module _ (a : List ℕ) (head n stop q : ℕ) (cut sums lasts : List ℕ) (first
       let some = r .some in
       record {
         shape = λ x. record { level-kept = refl; m-kept = refl; forward-kept = λ j h. refl };
+        backs-kept = λ x. refl;
         outside = λ x away. same-refl a x;
         part = parts-whole a n front (r .lower);
         stop-is =
@@ -193,6 +196,9 @@ module _ (a₀ b : List ℕ) (head n i stop q : ℕ) (cut sums lasts : List ℕ)
           forward-kept = λ j h. t .forward-kept j h ∙ s .forward-kept j h;
         }
 
+    backs-kept' : BacksKept a₀ b'
+    backs-kept' x = lift .backs-kept x ∙ l .backs-kept x
+
     linked' : Linked b' head (front ++ back)
     linked' = linked-frame b b' head (front ++ back) long (lift .shape head) (all-refl (front ++ back) (lift .shape)) linked
 
@@ -249,7 +255,14 @@ module _ (a₀ b : List ℕ) (head n i stop q : ℕ) (cut sums lasts : List ℕ)
 
     left-turn : (first : ℕ) → first ≡ word b head (3 + (i - 1)) → Left a₀ b' head (i - 1) first q ends front back
     left-turn first e =
-        record { shape = shape'; outside = outside'; part = part'; stop-is = stop' first e; owed = owed' }
+        record {
+          shape = shape';
+          backs-kept = backs-kept';
+          outside = outside';
+          part = part';
+          stop-is = stop' first e;
+          owed = owed';
+        }
 
     -- After the turn at link 0 the front is settled: what is left differs at link 0 alone, which counts for no record.
     settled-last : i - 1 ≡ 0 → Settled a₀ b' head q ends front
@@ -257,6 +270,7 @@ module _ (a₀ b : List ℕ) (head n i stop q : ℕ) (cut sums lasts : List ℕ)
         record {
           length-kept = long ∙ g .length-kept;
           shape = shape';
+          backs-kept = backs-kept';
           outside = outside';
           values =
               lowest-free b' (raisedSums a₀ head ends i (i - 1) carry) (lastSums a₀ ends) front (some-of b' linked')

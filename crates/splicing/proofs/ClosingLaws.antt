@@ -8,7 +8,7 @@ use native.Mathlib.Omega.{arith}
 use borrow.Author.Count.{below-more}
 use lib.Dec.{ltb}
 use lib.ListN.{length, getD}
-use Rattle.arena.specs.Arena.{stride, word, level, forward}
+use Rattle.arena.specs.Arena.{stride, word, level, forward, backAt}
 use Rattle.arena.specs.Lazy.{nextWith, lastWith}
 use Rattle.arena.specs.inside.Chain.{Has, put, All, Away, Links, Chain, Same, Value, growing, LinksOf, ChainOf}
 use Rattle.arena.proofs.Cases.{eq-or-ne}
@@ -119,6 +119,7 @@ module _ (a b ends : List ℕ) (w : Ended a b ends 8) where
         level-kept = level-kept;
         m-kept = λ x. field-kept x 1 (omega arith) (λ k p e. omega arith);
         p-kept = λ x. field-kept x 2 (omega arith) (λ k p e. omega arith);
+        backs-kept = λ x. field-kept x backAt (omega arith) (λ k p e. omega arith);
         adjust-kept = λ x k few. field-kept x (11 + k) (omega arith) (λ i p e. omega arith);
         outside = λ x n. record { at = λ j few. w .other x j few (λ k p e. n k p) };
       }

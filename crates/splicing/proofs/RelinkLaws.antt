@@ -7,12 +7,12 @@ use Prim.Native.Nat.{ℕ, _+_, _-_, _≤_, _<_}
 use native.Mathlib.Omega.{arith}
 use lib.Dec.{ltb}
 use lib.ListN.{getD}
-use Rattle.arena.specs.Arena.{stride, word, level, forward}
+use Rattle.arena.specs.Arena.{stride, word, level, forward, backAt}
 use Rattle.arena.specs.Lazy.{nextWith, lastWith}
 use Rattle.arena.specs.inside.Chain.{Has, All, Away, Chain, Linked, Same, Shape, Value, closed, growing, LinksOf, ChainOf}
 use Rattle.arena.proofs.Cases.{lt-or-ge}
 use Rattle.arena.proofs.ListLaws.{last-here, last-none, last-append, all-left, all-right, all-append, chain-right, next-front, next-back, next-none, some-or-none, last-all, last-inside, last-any, last-forward, not-last}
-use Rattle.arena.proofs.Frames.{all-map, all-refl, all-both, next-frame, same-shape, chain-frame, last-frame, member-before, chain-some, chain-has}
+use Rattle.arena.proofs.Frames.{all-map, all-refl, all-both, next-here, next-frame, same-shape, chain-frame, last-frame, member-before, chain-some, chain-has}
 use Rattle.splicing.specs.inside.Open.{OpenLinked, Relinkable, Relinked}
 use Rattle.splicing.proofs.RelinkWords.{Rewired, Ready, Replaced}
 
@@ -39,6 +39,19 @@ module _ (a : List ℕ) (h hc : ℕ) (cs front back cut sums ends : List ℕ) (n
 
   front-has : All (λ x. Has a x) front
   front-has = all-left (λ x. Has a x) front back (chain-has closed a (front ++ back) (r .list .chain))
+
+  -- The first record of the front is where the head's first forward leads.
+  first-of : (fs : List ℕ) → Chain a (fs ++ back) → 1 ≤ nextWith a 0 fs → Has a (nextWith a 0 fs)
+  unfolding nextWith
+  first-of [] c more = absurd (omega arith)
+  first-of (x ∷ fs) c more = subst (λ (y : ℕ). Has a y) (sym (next-here a 0 x fs (c .0 .low))) (c .0 .has)
+
+  pub first-has : Has a (forward a h 0)
+  first-has =
+      let top = r .list .top in
+      let some = r .some in
+      let more = r .with-link 0 (omega arith) in
+      subst (λ (y : ℕ). Has a y) (sym (r .list .links .at 0 (omega arith) ∙ next-front a 0 front back more)) (first-of front (r .list .chain) more)
 
   pub ready : Ready a h cut ends n
   ready =
@@ -80,8 +93,13 @@ module _ (a : List ℕ) (h hc : ℕ) (cs front back cut sums ends : List ℕ) (n
         let e : 3 + (j - 3) ≡ j = omega arith in
         subst (λ (i : ℕ). word b x i ≡ word a x i) e (forward-kept x (j - 3) (omega arith) ne (other (j - 3))))
         (λ q.
+        lt-or-ge j backAt
+        (λ u.
         let e : 11 + (j - 11) ≡ j = omega arith in
-        subst (λ (i : ℕ). word b x i ≡ word a x i) e (w .adjust-other x (j - 11) (omega arith) ne)))
+        subst (λ (i : ℕ). word b x i ≡ word a x i) e (w .adjust-other x (j - 11) (omega arith) ne))
+        (λ u.
+        let e : backAt ≡ j = omega arith in
+        subst (λ (i : ℕ). word b x i ≡ word a x i) e (w .backs-kept x))))
 
     outside : (x : ℕ) → (x ≡ h → ⊥) → ((k : ℕ) → k < n → x ≡ getD ends k 0 → ⊥) → Same a b x
     outside x ne other = record { at = λ j few. words-kept x j few ne other }
@@ -228,6 +246,7 @@ module _ (a : List ℕ) (h hc : ℕ) (cs front back cut sums ends : List ℕ) (n
             level-kept = level-kept;
             m-kept = λ x. w .plain x 1 (omega arith);
             p-kept = λ x. w .plain x 2 (omega arith);
+            backs-kept = w .backs-kept;
             adjust-kept = w .adjust-other;
             adjust-head = λ k p. w .adjust-done k (omega arith) p;
             adjust-above = w .adjust-above;

@@ -6,8 +6,9 @@ use Prim.Native.Nat.{ℕ, suc, _+_, _≤_, _<_}
 use native.Mathlib.Omega.{arith}
 use lib.ListN.{length, getD, set, length-set}
 use lib.Seq.{getD-set-same, getD-set-other}
-use Rattle.arena.specs.Arena.{stride, word, forward, adjust}
+use Rattle.arena.specs.Arena.{stride, word, forward, adjust, backAt}
 use Rattle.arena.specs.inside.Chain.{Has, put}
+use Rattle.arena.specs.inside.Backs.{BacksKept}
 use Rattle.arena.proofs.Cases.{eq-or-ne}
 use Rattle.arena.proofs.PutLaws.{length-put, word-same, word-other-record, word-other-field}
 use Rattle.splicing.specs.inside.Open.{passOn, relinkOne}
@@ -74,6 +75,7 @@ module _ (a : List ℕ) (h from to k v : ℕ) where
 pub record Rewired (a b : List ℕ) (h : ℕ) (cut sums ends : List ℕ) (i n : ℕ) : Type 0 where
   pub length-kept : length b ≡ length a
   pub plain : (x j : ℕ) → j < 3 → word b x j ≡ word a x j
+  pub backs-kept : BacksKept a b
   pub adjust-other : (x k : ℕ) → k < 8 → (x ≡ h → ⊥) → adjust b x k ≡ adjust a x k
   pub adjust-done : (k : ℕ) → i ≤ k → k < n → adjust b h k ≡ getD sums k 0
   pub adjust-above : (k : ℕ) → n ≤ k → k < 8 → adjust b h k ≡ adjust a h k
@@ -98,6 +100,7 @@ rewired-none a h cut sums ends n =
     record {
       length-kept = refl;
       plain = λ x j p. refl;
+      backs-kept = λ x. refl;
       adjust-other = λ x k p m. refl;
       adjust-done = λ k p q. absurd (omega arith);
       adjust-above = λ k p q. refl;
@@ -134,6 +137,7 @@ module _ (a b : List ℕ) (h : ℕ) (cut sums ends : List ℕ) (i n : ℕ) (less
       record {
         length-kept = one-length b h (getD ends i 0) (getD cut i 0) i (getD sums i 0) ∙ long;
         plain = λ x j p. kept x j (omega arith) (omega arith) (omega arith) ∙ w .plain x j p;
+        backs-kept = λ x. kept x backAt (omega arith) (omega arith) (omega arith) ∙ w .backs-kept x;
         adjust-other = λ x k p m.
             eq-or-ne k i
             (λ e.

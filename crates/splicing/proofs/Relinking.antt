@@ -5,13 +5,13 @@ use mathlib.Core.List.{List}
 use Prim.Native.Nat.{ℕ, suc, _+_, _-_, _%_, _^_, _≤_, _<_}
 use native.Mathlib.Omega.{arith}
 use lib.ListN.{length, getD, set}
-use Rattle.arena.specs.Arena.{word, adjust}
-use Rattle.arena.specs.inside.Chain.{Has}
+use Rattle.arena.specs.Arena.{word, forward, adjust, backAt}
+use Rattle.arena.specs.inside.Chain.{Has, put}
 use Rattle.arena.specs.inside.Sums.{RenewedBelow}
 use Rattle.arena.proofs.Summing.{Renewing, renewing-start, renewing-more, renewing-done}
-use Rattle.splicing.specs.inside.Open.{relinkOne, FrontReady, FrontMoved, lastSums, cutSums}
+use Rattle.splicing.specs.inside.Open.{relinkOne, relinkLowest, FrontReady, FrontMoved, lastSums, cutSums}
 use Rattle.splicing.proofs.RelinkWords.{Rewired, Ready, Replaced, rewired-none, rewired-turn, replaced-none, replaced-turn}
-use Rattle.splicing.proofs.RelinkLaws.{ready, relinked}
+use Rattle.splicing.proofs.RelinkLaws.{ready, first-has, relinked}
 
 -- The words and the ends from link i up to n are done.
 pub record Rewiring (a₀ a : List ℕ) (h : ℕ) (cut found ends₀ ends : List ℕ) (n i : ℕ) : Type 0 where
@@ -162,10 +162,32 @@ module _ (a₀ a : List ℕ) (h : ℕ) (cut found ends₀ ends : List ℕ) (n i 
   pub relinking-has : (0 < 8) × Has a h × Has a (getD ends 0 0) × Has a (getD cut 0 0)
   relinking-has = rewiring-has a₀ a h cut found ends₀ ends n i 0 lowest (g .rewiring)
 
-  pub relinking-done : (b : List ℕ) → b ≡ relinkOne a h (getD ends 0 0) (getD cut 0 0) 0 (getD found 0 0) → FrontMoved a₀ b h cut found ends₀ (set ends 0 (getD cut 0 0)) n
+  -- The front's first record, and the end that it goes behind, are those of the start.
+  first-is : forward a h 0 ≡ forward a₀ h 0
+  first-is = g .rewiring .words .forward-below h 0 (let some = g .some in omega arith)
+
+  from-is : getD ends 0 0 ≡ getD ends₀ 0 0
+  from-is = end-is a₀ a h cut found ends₀ ends n i 0 lowest (g .rewiring)
+
+  pub relinking-first : FrontReady a₀ h cut found ends₀ n → Has a (forward a h 0) × (getD ends 0 0 < 4_294_967_296)
+  relinking-first p =
+      let r = p .4 in
+      let has = first-has a₀ h (p .0) (p .1) (p .2) (p .3) cut found ends₀ n r in
+      let fits = r .end-fits in
+      let same = from-is in
+      let long = g .arena-kept in
+      (subst (λ (x : ℕ). Has a x) (sym first-is) (omega arith), omega arith)
+
+  pub relinking-done : (b : List ℕ) → b ≡ relinkLowest a h (getD ends 0 0) (getD cut 0 0) (getD found 0 0) → FrontMoved a₀ b h cut found ends₀ (set ends 0 (getD cut 0 0)) n
+  unfolding relinkLowest
   relinking-done b e hc cs front back r =
-      let last = rewiring-turn a₀ a h cut found ends₀ ends n i 0 lowest (g .rewiring) b e in
-      relinked a₀ h hc cs front back cut found ends₀ n r b (last .words) (set ends 0 (getD cut 0 0)) (last .replaced)
+      let links = relinkOne a h (getD ends 0 0) (getD cut 0 0) 0 (getD found 0 0) in
+      let last = rewiring-turn a₀ a h cut found ends₀ ends n i 0 lowest (g .rewiring) links refl in
+      record {
+        links = links;
+        relinked = relinked a₀ h hc cs front back cut found ends₀ n r links (last .words) (set ends 0 (getD cut 0 0)) (last .replaced);
+        stored = e ∙ ap (λ (x : ℕ). put links x backAt (getD ends 0 0)) first-is ∙ ap (put links (forward a₀ h 0) backAt) from-is;
+      }
 
   pub heads-renewed : RenewedBelow (cutSums found) n sums₀ sums
   heads-renewed f t = renewing-done (cutSums found) n sums₀ sums i (g .heads) over f t

@@ -2,13 +2,16 @@
 ghost use mathlib.Core.Path.{_≡_};
 ghost use Prim.Native.Nat.{_<_};
 ghost use lib.ListN.{length};
+ghost use Rattle.arena.specs.Arena.{forward};
 ghost use Rattle.arena.specs.inside.Chain.{Has};
 ghost use Rattle.arena.specs.inside.Sums.{RenewedBelow};
-ghost use Rattle.splicing.specs.inside.Open.{relinkOne, FrontReady, FrontMoved, lastSums, cutSums};
+ghost use Rattle.splicing.specs.inside.Open.{relinkOne, relinkLowest, FrontReady, FrontMoved, lastSums, cutSums};
 use arena::words::ADJUST;
+use arena::words::BACK;
 use arena::words::FORWARD;
 use arena::words::get;
 use arena::words::store;
+use arena::words::wide;
 
 // Moves the records of the head up to `to` behind `from` at link k, and makes adjust k of the head v.
 pub fn relink_one(arena: &mut [u32], head: usize, from: usize, to: usize, k: usize, v: u32)
@@ -20,6 +23,17 @@ pub fn relink_one(arena: &mut [u32], head: usize, from: usize, to: usize, k: usi
     let rest = get(arena, to, FORWARD + k);
     store(arena, head, FORWARD + k, rest);
     store(arena, head, ADJUST + k, v);
+}
+
+// The same at link 0, which also leads back: the back word of the first of these records becomes `from`.
+pub fn relink_lowest(arena: &mut [u32], head: usize, from: usize, to: usize, v: u32)
+    requires { ⌜ Has (now arena) head × Has (now arena) from × Has (now arena) to ⌝ }
+    requires { ⌜ Has (now arena) (forward (now arena) head 0) × (from < 4_294_967_296) ⌝ }
+    ensures { λ _. ⌜ now (arena .exit) ≡ relinkLowest (now (arena .entry)) head from to v ⌝ }
+{
+    let first = wide(get(arena, head, FORWARD));
+    relink_one(arena, head, from, to, 0, v);
+    store(arena, first, BACK, from as u32);
 }
 
 // Moves the records in front, whose last ones with each link below n are in `cut` and the adjusts that these had in
@@ -53,6 +67,6 @@ pub fn relink(
         i = k;
     }
     let to = cut[0];
-    relink_one(arena, head, ends[0], to, 0, found[0]);
+    relink_lowest(arena, head, ends[0], to, found[0]);
     ends[0] = to;
 }

@@ -12,12 +12,14 @@ use Rattle.searching.specs.inside.Cut.{front, behind}
 use Rattle.searching.proofs.CutLaws.{behind-shorter, all-front}
 use Rattle.dropping.proofs.DropLaws.{same-first, first-has}
 use Rattle.settling.specs.inside.Cached.{Cached}
-use Rattle.moving.specs.inside.Advance.{Movable, MovedFront, RunMoved}
-use Rattle.stepping.specs.inside.Trio.{Kept}
+use Rattle.moving.specs.inside.Advance.{Movable, Run, RunMoved}
+use Rattle.stepping.specs.inside.Trio.{Trio, Kept}
+use Rattle.stepping.specs.inside.Threads.{Threads}
 use Rattle.stepping.specs.inside.Running.{Waiting, Task, Further, Both, waitingIn, NewerFirst, NewerReady, NewerDone}
 use Rattle.stepping.proofs.TrioLaws.{trio-swap, trio-movable}
 use Rattle.stepping.proofs.Steps.{firsts-fit, newer-moves}
 use Rattle.stepping.proofs.Confined.{confined-swap, confined-moved}
+use Rattle.stepping.proofs.ThreadLaws.{threads-swap, threads-end, threads-moved}
 
 module _ (gap : ℕ) (a : List ℕ) (ho hn v : ℕ) (ends : List ℕ) (p : NewerReady gap a ho hn ends) (e : v ≡ word a ho 3) where
   abbrev now : Both (p .0) a ho hn ends
@@ -53,7 +55,7 @@ module _ (gap : ℕ) (a : List ℕ) (ho hn v : ℕ) (ends : List ℕ) (p : Newer
       let less = p .1 .order in
       trio-movable a hn ho (p .0 .result) (key + 1) (now .s) (now .ys) (now .r ∷ now .xs) (now .cs) ends
       (trio-swap a ho hn (p .0 .result) (now .r ∷ now .xs) (now .s ∷ now .ys) (now .cs) ends (waits .lists)) (omega arith)
-      (omega arith)
+      (omega arith) (threads-end a ho hn (p .0 .result) (now .r ∷ now .xs) (now .s ∷ now .ys) (now .cs) ends (waits .lists) (now .merging .threads))
 
   -- The sums kept, before the run is moved and after it.
   module _ (olders newers lasts : List ℕ) (kept : Kept a ho hn ends olders newers lasts) where
@@ -66,7 +68,7 @@ module _ (gap : ℕ) (a : List ℕ) (ho hn v : ℕ) (ends : List ℕ) (p : Newer
     pub newer-kept : (key : ℕ) → key ≡ word a v 1 → (b : List ℕ) (q : ℕ) (ends' : List ℕ) → RunMoved a b hn (key + 1) q ends ends' → (newers' lasts' : List ℕ) → Cached b hn ends' newers' lasts' → Kept b ho hn ends' olders newers' lasts'
     newer-kept key k b q ends' move newers' lasts' cached =
         let lists = waits .lists in
-        let d = move (p .0 .result) (now .cs) (now .s) (now .ys) (newer-movable key k) in
+        let d = move (p .0 .result) (now .cs) (now .s) (now .ys) (newer-movable key k) .moved in
         let still = d .outside ho (λ e. lists .older-newer (sym e)) (λ e. lists .older-result (sym e)) (lists .older-off-result) (all-front (λ x. x ≡ ho → ⊥) a (key + 1) (now .s ∷ now .ys) (lists .older-off-newer)) in
         record {
           older = suffixes-agree (adjust a ho) (adjust b ho) olders (λ i low high. still .at (11 + i) (omega arith)) (kept .older);
@@ -83,11 +85,20 @@ module _ {gap : ℕ} (t : Task gap) (a b : List ℕ) (ho hn : ℕ) (ends ends' :
   key = mWord a (at .r) + 1
 
   abbrev Moves : Type 0
-  Moves =
-      MovedFront a b hn (t .result) key (pUnder a (adjust a ho) (at .r) + gap) (at .cs) (at .s ∷ at .ys) ends'
+  Moves = Run a b hn (t .result) key (pUnder a (adjust a ho) (at .r) + gap) (at .cs) (at .s ∷ at .ys) ends'
+
+  abbrev swapped : Trio a hn ho (t .result) (at .s ∷ at .ys) (at .r ∷ at .xs) (at .cs) ends
+  swapped = trio-swap a ho hn (t .result) (at .r ∷ at .xs) (at .s ∷ at .ys) (at .cs) ends (at .merging .runs .waits .lists)
+
+  newer-threads : Moves → Threads b (t .result) (at .r ∷ at .xs) (behind a key (at .s ∷ at .ys)) (at .cs ++ front a key (at .s ∷ at .ys))
+  newer-threads run =
+      threads-swap b (t .result) (behind a key (at .s ∷ at .ys)) (at .r ∷ at .xs) (at .cs ++ front a key (at .s ∷ at .ys))
+      (threads-moved a b hn ho (t .result) key (pUnder a (adjust a ho) (at .r) + gap) (at .s) (at .ys) (at .r ∷ at .xs) (at .cs) ends ends' (let less = w .order in omega arith) swapped run
+      (threads-swap a (t .result) (at .r ∷ at .xs) (at .s ∷ at .ys) (at .cs) (at .merging .threads)))
 
   newer-further : Moves → Further t b ho hn ends' (waitingIn at)
-  newer-further d =
+  newer-further run =
+      let d = run .moved in
       record {
         still =
             record {
@@ -101,6 +112,7 @@ module _ {gap : ℕ} (t : Task gap) (a b : List ℕ) (ho hn : ℕ) (ends ends' :
                         confined-swap (t .arena) b hn ho (t .result) (t .newer) (t .older) (behind a key (at .s ∷ at .ys)) (at .r ∷ at .xs) (at .cs ++ front a key (at .s ∷ at .ys))
                         (confined-moved (t .arena) a b hn ho (t .result) key (pUnder a (adjust a ho) (at .r) + gap) (at .s) (t .newer) (t .older) (at .ys) (at .r ∷ at .xs) (at .cs) ends'
                         (confined-swap (t .arena) a ho hn (t .result) (t .older) (t .newer) (at .r ∷ at .xs) (at .s ∷ at .ys) (at .cs) (at .merging .confined)) d);
+                    threads = newer-threads run;
                   };
             };
         fewer = let f = behind-shorter a key (at .s) (at .ys) (let less = w .order in omega arith) in omega arith;
@@ -113,5 +125,5 @@ newer-done gap a b ho hn v key q ends ends' e k f move t w =
     let same = same-first a ho v (at .r) (at .xs) (at .merging .runs .waits .lists .older .linked) e in
     let d = move (t .result) (at .cs) (at .s) (at .ys) (newer-movable gap a ho hn v ends (t, w) e key k) in
     newer-further t a b ho hn ends ends' w
-    (subst (λ (x : ℕ). MovedFront a b hn (t .result) (mWord a (at .r) + 1) x (at .cs) (at .s ∷ at .ys) ends') (f ∙ ap (λ (x : ℕ). pUnder a (adjust a ho) x + gap) same)
-    (subst (λ (x : ℕ). MovedFront a b hn (t .result) (x + 1) q (at .cs) (at .s ∷ at .ys) ends') (k ∙ ap (λ (x : ℕ). word a x 1) same) d))
+    (subst (λ (x : ℕ). Run a b hn (t .result) (mWord a (at .r) + 1) x (at .cs) (at .s ∷ at .ys) ends') (f ∙ ap (λ (x : ℕ). pUnder a (adjust a ho) x + gap) same)
+    (subst (λ (x : ℕ). Run a b hn (t .result) (x + 1) q (at .cs) (at .s ∷ at .ys) ends') (k ∙ ap (λ (x : ℕ). word a x 1) same) d))

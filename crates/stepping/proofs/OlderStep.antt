@@ -19,12 +19,14 @@ use Rattle.dropping.specs.inside.Dropping.{Dropped, Tied, DroppedTied}
 use Rattle.dropping.proofs.DropLaws.{same-first, first-has}
 use Rattle.splicing.specs.inside.Open.{lastSums}
 use Rattle.settling.specs.inside.Cached.{Cached}
-use Rattle.moving.specs.inside.Advance.{Movable, MovedFront, RunMoved}
-use Rattle.stepping.specs.inside.Trio.{Kept}
+use Rattle.moving.specs.inside.Advance.{Movable, MovedFront, Run, RunMoved}
+use Rattle.stepping.specs.inside.Trio.{Trio, Kept}
+use Rattle.stepping.specs.inside.Threads.{Threads}
 use Rattle.stepping.specs.inside.Running.{Waiting, Confined, Task, Further, Both, waitingIn, OlderFirst, OlderReady, OlderDone}
 use Rattle.stepping.proofs.TrioLaws.{trio-movable, trio-moved}
 use Rattle.stepping.proofs.Steps.{firsts-fit, older-stays, older-drops}
 use Rattle.stepping.proofs.Confined.{confined-moved, confined-dropped}
+use Rattle.stepping.proofs.ThreadLaws.{threads-end, threads-moved, threads-dropped}
 
 module _ (gap : ℕ) (a : List ℕ) (ho hn v : ℕ) (ends : List ℕ) (p : OlderReady gap a ho hn ends) (e : v ≡ word a hn 3) where
   abbrev now : Both (p .0) a ho hn ends
@@ -64,13 +66,17 @@ module _ (gap : ℕ) (a : List ℕ) (ho hn v : ℕ) (ends : List ℕ) (p : Older
         let f = first in
         let some = waits .newer-room .0 .some in
         trio-movable a ho hn (p .0 .result) key (now .r) (now .xs) (now .s ∷ now .ys) (now .cs) ends (waits .lists) (omega arith) (omega arith)
+        (threads-end a ho hn (p .0 .result) (now .r ∷ now .xs) (now .s ∷ now .ys) (now .cs) ends (waits .lists) (now .merging .threads))
 
     -- After the run was moved, in the words of the laws.
     module _ (b : List ℕ) (q : ℕ) (ends' : List ℕ) (f : q ≡ pUnder a (adjust a hn) v + gap) (move : RunMoved a b ho key q ends ends') where
-      pub older-moved : MovedFront a b ho (p .0 .result) (mWord a (now .s)) (pUnder a (adjust a hn) (now .s) + gap) (now .cs) (now .r ∷ now .xs) ends'
-      older-moved =
-          subst (λ (x : ℕ). MovedFront a b ho (p .0 .result) (mWord a (now .s)) x (now .cs) (now .r ∷ now .xs) ends') (f ∙ ap (λ (x : ℕ). pUnder a (adjust a hn) x + gap) same)
-          (subst (λ (x : ℕ). MovedFront a b ho (p .0 .result) x q (now .cs) (now .r ∷ now .xs) ends') first (move (p .0 .result) (now .cs) (now .r) (now .xs) older-movable))
+      pub older-run : Run a b ho (p .0 .result) (mWord a (now .s)) (pUnder a (adjust a hn) (now .s) + gap) (now .cs) (now .r ∷ now .xs) ends'
+      older-run =
+          subst (λ (x : ℕ). Run a b ho (p .0 .result) (mWord a (now .s)) x (now .cs) (now .r ∷ now .xs) ends') (f ∙ ap (λ (x : ℕ). pUnder a (adjust a hn) x + gap) same)
+          (subst (λ (x : ℕ). Run a b ho (p .0 .result) x q (now .cs) (now .r ∷ now .xs) ends') first (move (p .0 .result) (now .cs) (now .r) (now .xs) older-movable))
+
+      abbrev pub older-moved : MovedFront a b ho (p .0 .result) (mWord a (now .s)) (pUnder a (adjust a hn) (now .s) + gap) (now .cs) (now .r ∷ now .xs) ends'
+      older-moved = older-run .moved
 
       abbrev result : List ℕ
       result = now .cs ++ front a (mWord a (now .s)) (now .r ∷ now .xs)
@@ -147,7 +153,7 @@ module _ {gap : ℕ} (t : Task gap) (a b : List ℕ) (ho hn : ℕ) (ends ends' :
   back = behind a m (at .r ∷ at .xs)
 
   abbrev Moves : Type 0
-  Moves = MovedFront a b ho (t .result) m (pUnder a (adjust a hn) (at .s) + gap) (at .cs) (at .r ∷ at .xs) ends'
+  Moves = Run a b ho (t .result) m (pUnder a (adjust a hn) (at .s) + gap) (at .cs) (at .r ∷ at .xs) ends'
 
   abbrev end : ℕ
   end = mWord b (lastWith b 0 (t .result) (at .cs ++ fr))
@@ -155,11 +161,18 @@ module _ {gap : ℕ} (t : Task gap) (a b : List ℕ) (ho hn : ℕ) (ends ends' :
   fewer : length back < length (at .r ∷ at .xs)
   fewer = behind-shorter a m (at .r) (at .xs) (w .order)
 
-  module _ (d : Moves) where
+  module _ (run : Moves) where
+    abbrev d : MovedFront a b ho (t .result) m (pUnder a (adjust a hn) (at .s) + gap) (at .cs) (at .r ∷ at .xs) ends'
+    d = run .moved
+
     confined : Confined (t .arena) b ho hn (t .result) (t .older) (t .newer) back (at .s ∷ at .ys) (at .cs ++ fr)
     confined =
         confined-moved (t .arena) a b ho hn (t .result) m (pUnder a (adjust a hn) (at .s) + gap) (at .r) (t .older) (t .newer) (at .xs) (at .s ∷ at .ys) (at .cs) ends'
         (at .merging .confined) d
+
+    threads : Threads b (t .result) back (at .s ∷ at .ys) (at .cs ++ fr)
+    threads =
+        threads-moved a b ho hn (t .result) m (pUnder a (adjust a hn) (at .s) + gap) (at .r) (at .xs) (at .s ∷ at .ys) (at .cs) ends ends' (w .order) (at .merging .runs .waits .lists) run (at .merging .threads)
 
     further-stays : (end ≡ m → ⊥) → Further t b ho hn ends' (waitingIn at)
     further-stays other =
@@ -173,10 +186,15 @@ module _ {gap : ℕ} (t : Task gap) (a b : List ℕ) (ho hn : ℕ) (ends ends' :
                     record {
                       runs = older-stays gap a b ho hn (t .result) (at .r) (at .s) (at .xs) (at .ys) (at .cs) ends ends' (t .all) (at .merging .runs) (w .order) d other;
                       confined = confined;
+                      threads = threads;
                     };
               };
           fewer = let f = fewer in omega arith;
         }
+
+    lists-moved : Trio b ho hn (t .result) back (at .s ∷ at .ys) (at .cs ++ fr) ends'
+    lists-moved =
+        trio-moved a b ho hn (t .result) m (pUnder a (adjust a hn) (at .s) + gap) (at .r) (at .xs) (at .s ∷ at .ys) (at .cs) ends ends' (at .merging .runs .waits .lists) d
 
     further-drops : (c : List ℕ) → end ≡ m → Dropped b c hn (at .s) (at .ys) → Further t c ho hn ends' (waitingIn at)
     further-drops c equal f =
@@ -192,6 +210,7 @@ module _ {gap : ℕ} (t : Task gap) (a b : List ℕ) (ho hn : ℕ) (ends ends' :
                       confined =
                           confined-dropped (t .arena) b c ho hn (t .result) (at .s) (t .older) (t .newer) back (at .ys) (at .cs ++ fr) confined
                           (at .merging .runs .waits .lists .newer-result) f;
+                      threads = threads-dropped b c ho hn (t .result) (at .s) back (at .ys) (at .cs ++ fr) ends' lists-moved f threads;
                     };
               };
           fewer = let f = fewer in omega arith;
@@ -204,7 +223,7 @@ module _ (gap : ℕ) (a b : List ℕ) (ho hn v key q : ℕ) (ends ends' : List �
 
   module _ (task : Task gap) (w : OlderFirst task a ho hn ends) where
     moved : Moves task a b ho hn ends ends' w
-    moved = older-moved gap a ho hn v ends (task, w) e key k b q ends' f move
+    moved = older-run gap a ho hn v ends (task, w) e key k b q ends' f move
 
     last-is : mWord b (getD ends' 0 0) ≡ end task a b ho hn ends ends' w
     last-is = ap (λ (x : ℕ). word b x 1) (end-is gap a ho hn v ends (task, w) e key k b q ends' f move)

@@ -2,9 +2,9 @@
 -- Each step changes one list and the result, and leaves every record and head of the other list.
 use mathlib.Core.Path.{_≡_, sym, ap, subst, _∙_}
 use mathlib.Core.List.{List, [], _∷_, _++_}
-use Prim.Native.Nat.{ℕ, _+_, _≤_}
+use Prim.Native.Nat.{ℕ, _+_, _≤_, _<_}
 use native.Mathlib.Omega.{arith}
-use lib.ListN.{length, length-append}
+use lib.ListN.{length, getD, length-append}
 use Rattle.arena.specs.Arena.{mWord, adjust}
 use Rattle.arena.specs.inside.Chain.{All, Away, Chain, after, Same}
 use Rattle.arena.specs.inside.Carried.{carried}
@@ -41,8 +41,8 @@ trio-swap a ho hn hc xs ys cs ends t =
       result-newer-apart = t .result-older-apart;
     }
 
-pub trio-movable : (a : List ℕ) (ho hn hc key r : ℕ) (xs ys cs ends : List ℕ) → Trio a ho hn hc (r ∷ xs) ys cs ends → 1 ≤ key → key ≤ mWord a r → Movable a ho hc key cs r xs ends
-trio-movable a ho hn hc key r xs ys cs ends t some h =
+pub trio-movable : (a : List ℕ) (ho hn hc key r : ℕ) (xs ys cs ends : List ℕ) → Trio a ho hn hc (r ∷ xs) ys cs ends → 1 ≤ key → key ≤ mWord a r → getD ends 0 0 < 4_294_967_296 → Movable a ho hc key cs r xs ends
+trio-movable a ho hn hc key r xs ys cs ends t some h fits =
     record {
       list = t .older;
       some = some;
@@ -53,6 +53,7 @@ trio-movable a ho hn hc key r xs ys cs ends t some h =
       head-away = t .older-off-result;
       result-away = t .result-off-older;
       apart = t .result-older-apart;
+      end-fits = fits;
     }
 
 falling-frame : (a b : List ℕ) (rs : List ℕ) → ((x : ℕ) → mWord b x ≡ mWord a x) → Falling a rs → Falling b rs

@@ -1,2 +1,3 @@
 pub mod Trio
+pub mod Threads
 pub mod Running

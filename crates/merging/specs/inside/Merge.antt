@@ -6,13 +6,14 @@ use lib.ListN.{length}
 use Rattle.checks.specs.Limits.{mostSizes}
 use Rattle.slicing.specs.Good.{Ordered}
 use Rattle.slicing.specs.Recorded.{Recorded, mergeRecorded, items}
-use Rattle.arena.specs.Arena.{level}
+use Rattle.arena.specs.Arena.{level, back}
 use Rattle.arena.specs.Lazy.{held}
 use Rattle.arena.specs.inside.Chain.{Has, All, Away, Same}
 use Rattle.arena.specs.inside.Built.{Built}
+use Rattle.arena.specs.inside.Backs.{Backs, Inner, lastOf}
 use Rattle.stepping.specs.inside.Trio.{Roomy}
 
--- The lists xs and ys of the heads ho and hn, whose adjusts are 0, share nothing and hc is apart from both; they are ordered, and no sum of a p of each and the gap leaves 32 bits.
+-- The lists xs and ys of the heads ho and hn, whose adjusts are 0, share nothing and hc is apart from both; they are ordered, no sum of a p of each and the gap leaves 32 bits, the way back along each is right, and the number of each record fits a word.
 pub record Mergeable (gap : ℕ) (a : List ℕ) (ho hn hc : ℕ) (xs ys : List ℕ) : Type 0 where
   pub older : Built a ho xs
   pub newer : Built a hn ys
@@ -32,12 +33,19 @@ pub record Mergeable (gap : ℕ) (a : List ℕ) (ho hn hc : ℕ) (xs ys : List �
   pub small : (x y : Recorded) → List·Memᴰ x (held a ho [] xs) → List·Memᴰ y (held a hn [] ys) → x .item .p + gap + y .item .p < 2 ^ 32
   pub older-room : All (Roomy a) xs
   pub newer-room : All (Roomy a) ys
+  pub older-backs : Inner a xs
+  pub newer-backs : Inner a ys
+  pub older-fits : All (λ x. x < 4_294_967_296) xs
+  pub newer-fits : All (λ x. x < 4_294_967_296) ys
+  pub result-fits : hc < 4_294_967_296
 
 -- The head hc has the record-carrying merge of the two lists. Free are the heads ho and hn, and of the records of the two lists all words but the level, except as the new list says.
 pub record Merged (gap : ℕ) (a b : List ℕ) (ho hn hc : ℕ) (xs ys : List ℕ) : Type 0 where
   pub length-kept : length b ≡ length a
   pub list : List ℕ
   pub built : Built b hc list
+  pub backs : Backs b hc list
+  pub last : back b hc ≡ lastOf hc list
   pub holds : held b hc [] list ≡ mergeRecorded gap (held a ho [] xs) (held a hn [] ys)
   pub level-kept : (x : ℕ) → (x ≡ hc → ⊥) → level b x ≡ level a x
   pub records : (x : ℕ) → Away x xs → Away x ys → Away x list

@@ -7,6 +7,7 @@ use lib.Dec.{leb}
 use Rattle.arena.specs.Arena.{forward, adjust}
 use Rattle.arena.specs.inside.Carried.{carried}
 use Rattle.stepping.specs.inside.Trio.{Trio}
+use Rattle.stepping.specs.inside.Threads.{Threads}
 use Rattle.stepping.specs.inside.Running.{Task, Confined, Underway, Further, Both, waitingIn}
 
 -- A step asks for a merge whose lists both have a record, and brings each such merge further.
@@ -29,6 +30,7 @@ pub record Finished {gap : ℕ} (t : Task gap) (a : List ℕ) (ho hn : ℕ) (end
   pub lists : Trio a ho hn (t .result) xs ys cs ends
   pub gives : carried a (adjust a (t .result)) cs ≡ t .all
   pub confined : Confined (t .arena) a ho hn (t .result) (t .older) (t .newer) xs ys cs
+  pub threads : Threads a (t .result) xs ys cs
 
 -- The runs ask for a merge on its way, and finish each.
 abbrev pub RunsReady : ℕ → List ℕ → ℕ → ℕ → List ℕ → Type 0

@@ -2,9 +2,10 @@
 use mathlib.Core.Path.{_≡_}
 use mathlib.Core.List.{List, _∷_, _++_, map}
 use Prim.Native.Nat.{ℕ, _≤_, _<_}
-use lib.ListN.{length}
-use Rattle.arena.specs.Arena.{level, mWord, adjust}
+use lib.ListN.{length, getD}
+use Rattle.arena.specs.Arena.{level, mWord, adjust, back}
 use Rattle.arena.specs.inside.Chain.{wrap, All, Away, Linked, trues, leaving, Same}
+use Rattle.arena.specs.inside.Backs.{WayBack}
 use Rattle.searching.specs.inside.Cut.{front, behind, Searchable}
 use Rattle.splicing.specs.inside.Open.{OpenLinked, EndsOf}
 
@@ -19,6 +20,7 @@ pub record Movable (a : List ℕ) (h hc key : ℕ) (cs : List ℕ) (r : ℕ) (rs
   pub head-away : Away h cs
   pub result-away : Away hc (r ∷ rs)
   pub apart : All (λ x. Away x (r ∷ rs)) cs
+  pub end-fits : getD ends 0 0 < 4_294_967_296
 
 -- The records fr in front were moved, and back are left.
 pub record Moved (a b : List ℕ) (h hc q : ℕ) (cs fr back ends' : List ℕ) : Type 0 where
@@ -37,6 +39,12 @@ pub record Moved (a b : List ℕ) (h hc q : ℕ) (cs fr back ends' : List ℕ) :
 abbrev pub MovedFront : (a b : List ℕ) (h hc key q : ℕ) (cs rs ends' : List ℕ) → Type 0
 MovedFront a b h hc key q cs rs ends' = Moved a b h hc q cs (front a key rs) (behind a key rs) ends'
 
+-- And the way back along both lists was kept: no back word but one of the records moved changed.
+pub record Run (a b : List ℕ) (h hc key q : ℕ) (cs rs ends' : List ℕ) : Type 0 where
+  pub moved : MovedFront a b h hc key q cs rs ends'
+  pub backs-off : (x : ℕ) → Away x (front a key rs) → back b x ≡ back a x
+  pub way-back : WayBack a b hc cs (front a key rs) (behind a key rs)
+
 -- What moving a run asks, for some open list with these ends, and what it promises for any.
 abbrev pub RunReady : (a : List ℕ) (h key : ℕ) (ends : List ℕ) → Type 0
 RunReady a h key ends =
@@ -44,4 +52,4 @@ RunReady a h key ends =
 
 abbrev pub RunMoved : (a b : List ℕ) (h key q : ℕ) (ends ends' : List ℕ) → Type 0
 RunMoved a b h key q ends ends' =
-    (hc : ℕ) (cs : List ℕ) (r : ℕ) (rs : List ℕ) → Movable a h hc key cs r rs ends → MovedFront a b h hc key q cs (r ∷ rs) ends'
+    (hc : ℕ) (cs : List ℕ) (r : ℕ) (rs : List ℕ) → Movable a h hc key cs r rs ends → Run a b h hc key q cs (r ∷ rs) ends'

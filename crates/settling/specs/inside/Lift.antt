@@ -8,6 +8,7 @@ use lib.ListN.{length}
 use Rattle.checks.specs.Limits.{mostSizes}
 use Rattle.arena.specs.Arena.{level, pWord, forward, adjust}
 use Rattle.arena.specs.inside.Chain.{Has, wrap, All, Away, Same, Shape}
+use Rattle.arena.specs.inside.Backs.{BacksKept}
 
 -- The first record of rs with link k, or stop.
 unfoldable pub nextOr : List ℕ → ℕ → ℕ → List ℕ → ℕ
@@ -37,6 +38,7 @@ pub record Lifted (a b : List ℕ) (k v r : ℕ) : Type 0 where
 pub record Lifting (a b : List ℕ) (k v : ℕ) (rs : List ℕ) : Type 0 where
   pub length-kept : length b ≡ length a
   pub shape : (x : ℕ) → Shape a b x
+  pub backs-kept : BacksKept a b
   pub outside : (x : ℕ) → Away x rs → Same a b x
   pub each : All (Lifted a b k v) rs
 

@@ -7,6 +7,7 @@ use Rattle.checks.specs.Limits.{mostSizes}
 use Rattle.arena.specs.Arena.{level, adjust}
 use Rattle.arena.specs.Lazy.{lastWith}
 use Rattle.arena.specs.inside.Chain.{wrap, All, Away, Linked, trues, Same, Shape}
+use Rattle.arena.specs.inside.Backs.{BacksKept}
 use Rattle.splicing.specs.inside.Open.{lastSums}
 
 -- The sums of a head.
@@ -28,5 +29,6 @@ pub record Ready (a : List ℕ) (head n : ℕ) (cut front back : List ℕ) : Typ
 pub record Settled (a b : List ℕ) (head q : ℕ) (ends front : List ℕ) : Type 0 where
   pub length-kept : length b ≡ length a
   pub shape : (x : ℕ) → Shape a b x
+  pub backs-kept : BacksKept a b
   pub outside : (x : ℕ) → Away x front → Same a b x
   pub values : trues b (lastSums a ends) front ≡ map (λ (t : ℕ). wrap t q) (trues a (headSums a head) front)

@@ -9,6 +9,7 @@ use Rattle.arena.specs.Arena.{level, mWord, adjust}
 use Rattle.arena.specs.inside.Chain.{All, Away, Same}
 use Rattle.arena.specs.inside.Carried.{carried}
 use Rattle.stepping.specs.inside.Trio.{Roomy, Trio}
+use Rattle.stepping.specs.inside.Threads.{Threads}
 
 -- The lists xs and ys wait: they are ordered, and no sum of a p of each and the gap leaves 32 bits.
 pub record Waiting (gap : ℕ) (a : List ℕ) (ho hn hc : ℕ) (xs ys cs ends : List ℕ) : Type 0 where
@@ -41,10 +42,11 @@ pub record Task (gap : ℕ) : Type 0 where
   pub newer : List ℕ
   pub all : List Recorded
 
--- A merge on its way: what waits, what is finished, and what it has left alone.
+-- A merge on its way: what waits, what is finished, what it has left alone, and the way back along its lists.
 pub record Merging {gap : ℕ} (t : Task gap) (a : List ℕ) (ho hn : ℕ) (xs ys cs ends : List ℕ) : Type 0 where
   pub runs : Running gap a ho hn (t .result) xs ys cs ends (t .all)
   pub confined : Confined (t .arena) a ho hn (t .result) (t .older) (t .newer) xs ys cs
+  pub threads : Threads a (t .result) xs ys cs
 
 -- It is on its way, whatever its lists are.
 pub record Underway {gap : ℕ} (t : Task gap) (a : List ℕ) (ho hn : ℕ) (ends : List ℕ) : Type 0 where

@@ -2,7 +2,7 @@
 -- The calls are those whose effects `Advancing` puts together.
 use mathlib.Core.List.{_∷_}
 use borrow.Author.Needs.{needs}
-use Rattle.moving.proofs.Advancing.{can-settle, can-relink, moved, moved-cached}
+use Rattle.moving.proofs.Advancing.{can-settle, can-relink, run, run-cached}
 use Rattle.cutting.proofs.cut_run.cut_run.Statement.{statement}
 use Rattle.cutting.proofs.cut_run.cut_run.Tie as tie
 
@@ -78,14 +78,15 @@ returns c =
     let cut = at-search .search .ensures (p .2 ∷ p .3) (p .4 .list) in
     let ready = can-settle _ _ (p .0) _ (p .1) (p .2) (p .3) _ (p .4) _ counted _ _ cut in
     let settled = at-settle .settle .ensures _ _ _ ready (entry .pre .1 .1) in
-    let relinked = at-relink .relink .ensures .0 (p .0) (p .1) _ _ (can-relink _ _ (p .0) _ (p .1) (p .2) (p .3) _ (p .4) _ counted _ _ cut _ _ settled) in
+    let spliced = at-relink .relink .ensures .0 (p .0) (p .1) _ _ (can-relink _ _ (p .0) _ (p .1) (p .2) (p .3) _ (p .4) _ counted _ _ cut _ _ settled) in
     let renewed = at-relink .relink .ensures .1 in (
       λ hc cs r rs w.
           let counted' = at-count .count-links .ensures (r ∷ rs) (w .list) in
           let cut' = at-search .search .ensures (r ∷ rs) (w .list) in
           let settled' = at-settle .settle .ensures _ _ _ (can-settle _ _ hc _ cs r rs _ w _ counted' _ _ cut') (entry .pre .1 .1) in
-          moved _ _ hc _ cs r rs _ w _ counted' _ _ cut' _ _ settled' _ _ (at-relink .relink .ensures .0 hc cs _ _ (can-relink _ _ hc _ cs r rs _ w _ counted' _ _ cut' _ _ settled')),
-      moved-cached _ _ (p .0) _ (p .1) (p .2) (p .3) _ (p .4) _ counted _ _ cut _ _ settled _ _ relinked _ _ _ _ (entry .pre .1 .1) (renewed .0) (renewed .1),
+          let spliced' = at-relink .relink .ensures .0 hc cs _ _ (can-relink _ _ hc _ cs r rs _ w _ counted' _ _ cut' _ _ settled') in
+          run _ _ hc _ cs r rs _ w _ counted' _ _ cut' _ _ settled' _ _ (spliced' .relinked) _ (spliced' .stored),
+      run-cached _ _ (p .0) _ (p .1) (p .2) (p .3) _ (p .4) _ counted _ _ cut _ _ settled _ _ (spliced .relinked) _ (spliced .stored) _ _ _ _ (entry .pre .1 .1) (renewed .0) (renewed .1),
     )
 
 pub cut-run-spec : {M : Type 1} → statement M

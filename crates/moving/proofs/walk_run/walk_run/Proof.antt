@@ -1,11 +1,11 @@
 -- `moving::walk_run::walk_run` meets its contract: the front stands behind the open list, raised, and the list keeps the rest.
--- The walk settles the front, and `RunLaws` puts it together with the one link that is changed.
+-- The walk settles the front, and `RunLaws` puts it together with the one link that is changed, forth and back.
 use mathlib.Core.List.{_∷_}
 use borrow.Author.Needs.{needs}
 use Rattle.splicing.specs.inside.Open.{lastSums}
 use Rattle.settling.specs.inside.Cached.{MakesUp}
 use Rattle.settling.specs.inside.Settled.{headSums}
-use Rattle.moving.proofs.RunLaws.{run-has, run-moved, run-cached}
+use Rattle.moving.proofs.RunLaws.{first-passes, run-has, run-first, run-moved, walk-cached}
 use Rattle.moving.proofs.walk_run.walk_run.Statement.{statement}
 use Rattle.moving.proofs.walk_run.walk_run.Tie as tie
 
@@ -24,7 +24,9 @@ lift-requires : tie.Need-lift-requires
 lift-requires c κs = search needs
 
 walk-requires : tie.Need-walk-requires
-walk-requires c κs = search needs
+walk-requires c κs =
+    let p = c .before .before .before .before .before .before .pre .0 in
+    (((_, p .4 .list), p .4 .some), first-passes _ _ (p .0) _ (p .1) (p .2) (p .3) _ (p .4))
 
 get-requires : tie.Need-get-requires
 get-requires c κs =
@@ -33,16 +35,16 @@ get-requires c κs =
     let p = start .pre .0 in
     (run-has _ _ (p .0) _ (p .1) (p .2) (p .3) _ (p .4) (start .pre .1 .0) _ _ (made at-walk) _ _ (at-walk .walk .ensures (p .2 ∷ p .3) (p .4 .list)) .2, search needs)
 
-slice-read-relink-one : tie.Need-slice-read-relink-one
-slice-read-relink-one c = search needs
+slice-read-relink-lowest : tie.Need-slice-read-relink-lowest
+slice-read-relink-lowest c = search needs
 
-relink-one-requires : tie.Need-relink-one-requires
-relink-one-requires c κs =
+relink-lowest-requires : tie.Need-relink-lowest-requires
+relink-lowest-requires c κs =
     let at-walk = c .before .before .before .before .before .before in
     let start = entry at-walk in
     let p = start .pre .0 in
-    let has = run-has _ _ (p .0) _ (p .1) (p .2) (p .3) _ (p .4) (start .pre .1 .0) _ _ (made at-walk) _ _ (at-walk .walk .ensures (p .2 ∷ p .3) (p .4 .list)) in
-    (search needs, has .0, has .1, has .2)
+    let walked = at-walk .walk .ensures (p .2 ∷ p .3) (p .4 .list) in
+    (run-has _ _ (p .0) _ (p .1) (p .2) (p .3) _ (p .4) (start .pre .1 .0) _ _ (made at-walk) _ _ walked, run-first _ _ (p .0) _ (p .1) (p .2) (p .3) _ (p .4) (start .pre .1 .0) _ _ (made at-walk) _ _ walked)
 
 slice-write-ends : tie.Need-slice-write-ends
 slice-write-ends c = search needs
@@ -55,14 +57,14 @@ same-length-2 c = search needs
 
 returns : tie.Need-returns
 returns c =
-    let at-relink-one = c .before .before in
-    let at-get = at-relink-one .before .before .before in
+    let at-relink = c .before .before in
+    let at-get = at-relink .before .before .before in
     let at-walk = at-get .before .before .before .before in
     let start = entry at-walk in
     let p = start .pre .0 in (
       λ hc cs r rs w.
-          run-moved _ _ hc _ cs r rs _ w (start .pre .1 .0) _ _ (made at-walk) _ _ (at-walk .walk .ensures (r ∷ rs) (w .list)) _ (at-get .get .ensures) _ (at-relink-one .relink-one .ensures),
-      run-cached _ _ (p .0) _ (p .1) (p .2) (p .3) _ (p .4) (start .pre .1 .0) _ _ (made at-walk) _ _ (at-walk .walk .ensures (p .2 ∷ p .3) (p .4 .list)) _ (at-get .get .ensures) _ (at-relink-one .relink-one .ensures) _ _ (start .pre .1 .1),
+          run-moved _ _ hc _ cs r rs _ w (start .pre .1 .0) _ _ (made at-walk) _ _ (at-walk .walk .ensures (r ∷ rs) (w .list)) _ (at-get .get .ensures) _ (at-relink .relink-lowest .ensures),
+      walk-cached _ _ (p .0) _ (p .1) (p .2) (p .3) _ (p .4) (start .pre .1 .0) _ _ (made at-walk) _ _ (at-walk .walk .ensures (p .2 ∷ p .3) (p .4 .list)) _ (at-get .get .ensures) _ (at-relink .relink-lowest .ensures) _ _ (start .pre .1 .1),
     )
 
 pub walk-run-spec : {M : Type 1} → statement M
@@ -72,8 +74,8 @@ walk-run-spec =
     lift-requires
     walk-requires
     get-requires
-    slice-read-relink-one
-    relink-one-requires
+    slice-read-relink-lowest
+    relink-lowest-requires
     slice-write-ends
     same-length
     same-length-2

@@ -3,7 +3,7 @@
 use Prim.Native.Nat.{_≤_}
 use native.Mathlib.Omega.{arith}
 use borrow.Author.Needs.{needs}
-use Rattle.splicing.proofs.Relinking.{Relinking, stepped, relinking-start, rewiring-has, relinking-turn, relinking-has, relinking-done, heads-renewed, lasts-renewed}
+use Rattle.splicing.proofs.Relinking.{Relinking, stepped, relinking-start, rewiring-has, relinking-turn, relinking-has, relinking-first, relinking-done, heads-renewed, lasts-renewed}
 use Rattle.splicing.proofs.relink.relink.Statement.{statement}
 use Rattle.splicing.proofs.relink.relink.Tie as tie
 
@@ -105,14 +105,18 @@ loop-again c =
 shared-slice-read-to-2 : tie.Need-shared-slice-read-to-2 Inv-loop μ-loop
 shared-slice-read-to-2 c = search needs
 
-slice-read-relink-one-2 : tie.Need-slice-read-relink-one-2 Inv-loop μ-loop
-slice-read-relink-one-2 c = search needs
+slice-read-relink-lowest : tie.Need-slice-read-relink-lowest Inv-loop μ-loop
+slice-read-relink-lowest c = search needs
 
-shared-slice-read-relink-one : tie.Need-shared-slice-read-relink-one Inv-loop μ-loop
-shared-slice-read-relink-one c = search needs
+shared-slice-read-relink-lowest : tie.Need-shared-slice-read-relink-lowest Inv-loop μ-loop
+shared-slice-read-relink-lowest c = search needs
 
-relink-one-requires-2 : tie.Need-relink-one-requires-2 Inv-loop μ-loop
-relink-one-requires-2 c κs = relinking-has _ _ _ _ _ _ _ _ _ _ _ _ _ (c .before .before .before .before .before .loop .inv) (search needs)
+relink-lowest-requires : tie.Need-relink-lowest-requires Inv-loop μ-loop
+relink-lowest-requires c κs =
+    let at-loop = c .before .before .before .before .before in
+    let over : at-loop .loop .i ≤ 1 = search needs in
+    let has = relinking-has _ _ _ _ _ _ _ _ _ _ _ _ _ (at-loop .loop .inv) over in
+    ((has .1, has .2, has .3), relinking-first _ _ _ _ _ _ _ _ _ _ _ _ _ (at-loop .loop .inv) over (search needs))
 
 slice-write-ends-2 : tie.Need-slice-write-ends-2 Inv-loop μ-loop
 slice-write-ends-2 c = search needs
@@ -135,7 +139,7 @@ returns c =
     let at-loop = at-relink .before .before .before .before .before .before in
     let inv = at-loop .loop .inv in
     let over : at-loop .loop .i ≤ 1 = search needs in
-    (relinking-done _ _ _ _ _ _ _ _ _ _ _ _ _ inv over _ (at-relink .relink-one2 .ensures), (heads-renewed _ _ _ _ _ _ _ _ _ _ _ _ _ inv over, lasts-renewed _ _ _ _ _ _ _ _ _ _ _ _ _ inv over))
+    (relinking-done _ _ _ _ _ _ _ _ _ _ _ _ _ inv over _ (at-relink .relink-lowest .ensures), (heads-renewed _ _ _ _ _ _ _ _ _ _ _ _ _ inv over, lasts-renewed _ _ _ _ _ _ _ _ _ _ _ _ _ inv over))
 
 pub relink-spec : {M : Type 1} → statement M
 relink-spec =
@@ -169,9 +173,9 @@ relink-spec =
     loop-less
     loop-again
     shared-slice-read-to-2
-    slice-read-relink-one-2
-    shared-slice-read-relink-one
-    relink-one-requires-2
+    slice-read-relink-lowest
+    shared-slice-read-relink-lowest
+    relink-lowest-requires
     slice-write-ends-2
     same-length
     same-length-2
