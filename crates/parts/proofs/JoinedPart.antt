@@ -16,6 +16,7 @@ use Rattle.arena.specs.inside.Chain.{All, Away, Same}
 use Rattle.arena.proofs.Cases.{lt-or-ge, eq-or-ne}
 use Rattle.arena.proofs.Frames.{all-map, all-both}
 use Rattle.arena.proofs.PutLaws.{same-trans}
+use Rattle.arena.proofs.BackLaws.{backs-inner}
 use Rattle.stepping.specs.inside.Trio.{Roomy}
 use Rattle.merging.specs.inside.Merge.{Mergeable, Merged}
 use Rattle.parts.specs.inside.Part.{firstHead, headOf, olderTurned, newerTurned, Part, Suits}
@@ -95,6 +96,11 @@ module _ (gap : ℕ) (levels c : List ℕ) (x y lo mid hi : ℕ) (l k : List Rec
               omega arith;
           older-room = room x lo mid l p older-suits;
           newer-room = room y mid hi k q newer-suits;
+          older-backs = backs-inner c 0 (p .list) (p .backed .backs);
+          newer-backs = backs-inner c 0 (q .list) (q .backed .backs);
+          older-fits = all-map (p .list) (λ u i. let v = i .1 in omega arith) (p .inside);
+          newer-fits = all-map (q .list) (λ u i. let v = i .1 in omega arith) (q .inside);
+          result-fits = omega arith;
         }
 
     -- What the records of both lists have, those of the merged list have.
@@ -113,6 +119,7 @@ module _ (gap : ℕ) (levels c : List ℕ) (x y lo mid hi : ℕ) (l k : List Rec
         record {
           list = m .list;
           built = m .built;
+          backed = record { backs = m .backs; head = m .last };
           holds = m .holds ∙ ap₂ (mergeRecorded gap) (p .holds) (q .holds);
           inside =
               merged-all d m (λ u. (lo ≤ u) × (u < hi)) (inside-sure lo hi)

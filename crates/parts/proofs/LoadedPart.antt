@@ -72,6 +72,7 @@ module _ (levels a b : List ℕ) (h done : ℕ) (lv : List ℕ) (s : List Item) 
       record {
         list = recordsOf (done + 1) s;
         built = d .built;
+        backed = d .backed;
         holds = loaded-holds;
         inside = records-inside (done + 1) s;
         level-is = loaded-levels;

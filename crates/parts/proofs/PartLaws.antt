@@ -7,13 +7,15 @@ use Prim.Native.Nat.{ℕ, _+_, _-_, _≤_, _<_}
 use native.Mathlib.Omega.{arith}
 use lib.ListN.{length, getD}
 use Rattle.slicing.specs.Recorded.{Recorded}
-use Rattle.arena.specs.Arena.{stride, word, level, adjust, levelAt, forwardAt, adjustAt}
+use Rattle.arena.specs.Arena.{stride, word, level, adjust, levelAt, forwardAt, adjustAt, backAt}
 use Rattle.arena.specs.Lazy.{held}
 use Rattle.arena.specs.inside.Chain.{Has, All, Away, Same}
 use Rattle.arena.specs.inside.Built.{Built}
+use Rattle.arena.specs.inside.Backs.{Backed}
 use Rattle.arena.proofs.Frames.{all-map, all-both, same-shape, next-frame, chain-frame}
 use Rattle.arena.proofs.ListLaws.{held-length}
 use Rattle.arena.proofs.HeldLaws.{held-carried}
+use Rattle.arena.proofs.BackLaws.{backs-frame}
 use Rattle.arena.proofs.CarriedLaws.{carried-same}
 use Rattle.parts.specs.inside.Part.{Part}
 use Rattle.parts.specs.inside.Copying.{Copied}
@@ -82,11 +84,19 @@ module _ (levels a b : List ℕ) (h lo hi : ℕ) (l : List Recorded) (p : Part l
             still = λ i few. moved-sums i few ∙ p .built .still i few;
           }
 
+      moved-backed : Backed b k (p .list)
+      moved-backed =
+          record {
+            backs = backs-frame a b 0 (p .list) (all-map (p .list) (λ x (s : Same a b x). s .at backAt (omega arith)) list-same) (p .backed .backs);
+            head = words backAt (omega arith) ∙ p .backed .head;
+          }
+
       pub part-moved : Has a k → ((lo ≤ k) × (k < hi) → ⊥) → Part levels b k lo hi l
       part-moved has out =
           record {
             list = p .list;
             built = moved-built has (away-out lo hi k (p .list) out (p .inside));
+            backed = moved-backed;
             holds = moved-holds;
             inside = p .inside;
             level-is = levels-same;

@@ -49,6 +49,7 @@ part-turned levels a b h k lo hi l p t =
     record {
       list = reverse (p .list);
       built = t .built;
+      backed = t .backed;
       holds = turned-holds a b h k (p .list) t ∙ ap turnRecorded (p .holds);
       inside = all-back (λ x. (lo ≤ x) × (x < hi)) (p .list) [] (p .inside) tt;
       level-is =

@@ -66,7 +66,7 @@ module _ (file levels : List ℕ) (rib : ℕ) (a b out : List ℕ) (kind : ℕ) 
       let most = face-taken file t face .most in
       record {
         holds =
-            holds-lazy b list (w .part .built .linked) (all-map list (λ x i. let u = i .1 in omega arith) (w .part .inside)) few-records
+            holds-lazy b list (w .part .built .linked) (w .part .backed) (all-map list (λ x i. let u = i .1 in omega arith) (w .part .inside)) few-records
             (subst (λ (l : List Recorded). Ordered (items l)) (sym (w .part .holds)) (part-ordered rib 1 t (face-taken file t face .good)))
             ∙ ap taken (w .part .holds);
         level-is = part-level levels b 0 1 (1 + sizeCount t) (partRecorded rib 1 t) (w .part);

@@ -11,6 +11,7 @@ use Rattle.arena.specs.Arena.{level}
 use Rattle.arena.specs.Lazy.{held}
 use Rattle.arena.specs.inside.Chain.{All}
 use Rattle.arena.specs.inside.Built.{Built}
+use Rattle.arena.specs.inside.Backs.{Backed}
 
 -- The first record that is no size's, and so may be a head.
 abbrev pub firstHead : ℕ
@@ -31,10 +32,11 @@ newerTurned = olderTurned + 1
 abbrev pub lastHead : ℕ
 lastHead = newerTurned
 
--- The head h has the items l, in records from lo up to hi, each with its lent level.
+-- The head h has the items l, in records from lo up to hi, each with its lent level, and the way back along them.
 pub record Part (levels a : List ℕ) (h lo hi : ℕ) (l : List Recorded) : Type 0 where
   pub list : List ℕ
   pub built : Built a h list
+  pub backed : Backed a h list
   pub holds : held a h [] list ≡ l
   pub inside : All (λ x. (lo ≤ x) × (x < hi)) list
   pub level-is : All (λ x. level a x ≡ getD levels (x - 1) 0) list
