@@ -1,5 +1,5 @@
 -- Check 20 one record at a time: what the records after those passed must be, and that the next record settles a part of it.
--- The links due after the passed records are those that the rest of the list has first; a record settles the links that it has and makes its own due.
+-- The links due after the passed records are those that the rest of the list has first; a record settles the links that it has and makes its own due, and its back word is the last of those passed.
 use mathlib.Core.Path.{_≡_, refl, sym, ap, subst, _∙_}
 use mathlib.Core.Bool.{Bool, true, _&&_, and-eq-true-iff}
 use mathlib.Core.List.{List, [], _∷_, _++_}
@@ -11,11 +11,13 @@ use Rattle.checks.specs.Check.{LazyList}
 use Rattle.checks.specs.Answer.{taken, next}
 use Rattle.checks.proofs.Answers.{not-both, same-taken, ask-taken, next-taken}
 use Rattle.slicing.specs.Recorded.{Recorded}
-use Rattle.arena.specs.Arena.{level, mWord, forward}
-use Rattle.arena.specs.Lazy.{nextWith, lastWith, trueP, held, walk, linksRight, linked, falling}
+use Rattle.arena.specs.Arena.{level, mWord, forward, back}
+use Rattle.arena.specs.Lazy.{nextWith, lastWith, trueP, held, walk, linksRight, linked, falling, backsRight}
+use Rattle.arena.specs.inside.Backs.{lastOf}
 use Rattle.arena.proofs.Cases.{lt-or-ge}
 use Rattle.arena.proofs.Frames.{next-here, next-past}
 use Rattle.arena.proofs.ListLaws.{last-more}
+use Rattle.arena.proofs.BackLaws.{last-of-more}
 use Rattle.maxplus.specs.inside.Pass.{Follows}
 
 -- Both of two tests hold where each does.
@@ -117,10 +119,12 @@ pub record Rest (a : List ℕ) (most : ℕ) (passed : List ℕ) (count m p : ℕ
   pub chain : linked a rs ≡ true
   pub falls : falling (held a 0 passed rs) ≡ true
   pub under : Under count m p (held a 0 passed rs)
+  pub backs : backsRight a (lastOf 0 passed) rs ≡ true
 
 -- Record r can come next.
 pub record Meets (a passed : List ℕ) (count m p r : ℕ) : Type 0 where
   pub few : r ≤ 512
+  pub behind : back a r ≡ lastOf 0 passed
   pub some : 1 ≤ level a r
   pub most : level a r ≤ 8
   pub links : (k : ℕ) → k < level a r → due a passed k ≡ r
@@ -133,7 +137,7 @@ pub record Turn (a : List ℕ) (most : ℕ) (passed : List ℕ) (count m p r : �
 
 module _ (a : List ℕ) (most : ℕ) (passed : List ℕ) (count m p r : ℕ) (here : due a passed 0 ≡ r) (more : r ≡ 0 → ⊥) where
   turn-of : (rest : List ℕ) → r ≤ 512 → walk most a (forward a r 0) ≡ taken rest → Rest a (suc most) passed count m p (r ∷ rest) → Turn a most passed count m p r
-  unfolding linked held
+  unfolding linked held backsRight
   turn-of rest few walks k =
       let one = and-eq-true-iff (leb 1 (level a r)) (leb (level a r) 8 && (linksRight a r rest (level a r) && linked a rest)) .0 (k .chain) in
       let two = and-eq-true-iff (leb (level a r) 8) (linksRight a r rest (level a r) && linked a rest) .0 (one .1) in
@@ -141,10 +145,12 @@ module _ (a : List ℕ) (most : ℕ) (passed : List ℕ) (count m p r : ℕ) (he
       let some = leb-true 1 (level a r) (one .0) in
       let own = links-each a r rest (level a r) (three .0) in
       let order = falling-under _ _ (count + 1) (k .falls) in
+      let behind = and-eq-true-iff (eqb (back a r) (lastOf 0 passed)) (backsRight a r rest) .0 (k .backs) in
       record {
         meets =
             record {
               few = few;
+              behind = eqb-true (back a r) (lastOf 0 passed) (behind .0);
               some = some;
               most = leb-true (level a r) 8 (two .0);
               links = λ i h. k .links i (omega (arith, leb-true (level a r) 8 (two .0))) ∙ next-here a i r rest h;
@@ -161,6 +167,7 @@ module _ (a : List ℕ) (most : ℕ) (passed : List ℕ) (count m p r : ℕ) (he
               chain = three .1;
               falls = order .1;
               under = order .0;
+              backs = ap (λ (x : ℕ). backsRight a x rest) (last-of-more 0 passed r) ∙ behind .1;
             };
       }
 
@@ -172,7 +179,7 @@ module _ (a : List ℕ) (most : ℕ) (passed : List ℕ) (count m p r : ℕ) (he
 
   -- What follows r, with r before it, follows the passed records.
   pub turn-back : (rest : List ℕ) → Meets a passed count m p r → Rest a most (passed ++ (r ∷ [])) (count + 1) (mWord a r) (trueP a 0 passed r) rest → Rest a (suc most) passed count m p (r ∷ rest)
-  unfolding linked held
+  unfolding linked held backsRight
   turn-back rest z k =
       let some = z .some in
       let walks = ap (λ (x : ℕ). walk most a x) (sym (due-here a passed 0 r some)) ∙ k .walks in
@@ -188,6 +195,9 @@ module _ (a : List ℕ) (most : ℕ) (passed : List ℕ) (count m p r : ℕ) (he
             (each (leb (level a r) 8) _ (le-leb (level a r) 8 (z .most)) (each (linksRight a r rest (level a r)) (linked a rest) own (k .chain)));
         falls = under-falling _ _ (count + 1) (λ e. absurd (omega arith)) (k .under) (k .falls);
         under = z .follows;
+        backs =
+            each (eqb (back a r) (lastOf 0 passed)) (backsRight a r rest) (eq-eqb _ _ (z .behind))
+            (ap (λ (x : ℕ). backsRight a x rest) (sym (last-of-more 0 passed r)) ∙ k .backs);
       }
 
 module _ (a : List ℕ) (most : ℕ) (passed : List ℕ) (count m p : ℕ) where
@@ -202,13 +212,21 @@ module _ (a : List ℕ) (most : ℕ) (passed : List ℕ) (count m p : ℕ) where
       let none = walk-over a most (due a passed 0) rs h (z .walks) in
       z .links k b ∙ ap (λ (l : List ℕ). nextWith a k l) none
 
-  pub rest-none : ((k : ℕ) → k < 8 → due a passed k ≡ 0) → Rest a most passed count m p []
-  unfolding nextWith linked held falling
-  rest-none f =
+  -- The last record passed is then the head's back word.
+  pub rest-back : (rs : List ℕ) → due a passed 0 ≡ 0 → Rest a most passed count m p rs → back a 0 ≡ lastOf 0 passed
+  unfolding backsRight
+  rest-back rs h z =
+      let none = walk-over a most (due a passed 0) rs h (z .walks) in
+      eqb-true (back a 0) (lastOf 0 passed) (ap (λ (l : List ℕ). backsRight a (lastOf 0 passed) l) (sym none) ∙ z .backs)
+
+  pub rest-none : ((k : ℕ) → k < 8 → due a passed k ≡ 0) → back a 0 ≡ lastOf 0 passed → Rest a most passed count m p []
+  unfolding nextWith linked held falling backsRight
+  rest-none f behind =
       record {
         walks = walk-stops a most (due a passed 0) (f 0 (omega arith));
         links = f;
         chain = refl;
         falls = refl;
         under = tt;
+        backs = eq-eqb (back a 0) (lastOf 0 passed) behind;
       }

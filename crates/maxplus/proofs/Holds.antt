@@ -1,18 +1,19 @@
--- A list of records that is linked at record 0, in records of 1 to 512 and at most as many, and ordered is what check 20 asks for.
--- The chain gives the walk one record at a time, each record's links and level are those that the check tests, and an item before all later ones is before the next.
+-- A list of records that is linked at record 0, with right back words, in records of 1 to 512 and at most as many, and ordered is what check 20 asks for.
+-- The chain gives the walk one record at a time, each record's links, level and back word are those that the check tests, and an item before all later ones is before the next.
 use mathlib.Core.Path.{_≡_, refl, ap, _∙_}
 use mathlib.Core.Bool.{true}
 use mathlib.Core.List.{List, [], _∷_, List·Memᴰ·head}
 use Prim.Native.Nat.{ℕ, zero, suc, _≤_, _<_}
 use native.Mathlib.Omega.{arith}
 use lib.ListN.{length}
-use borrow.Author.Tests.{lt-ltb, le-leb}
+use borrow.Author.Tests.{lt-ltb, le-leb, eq-eqb}
 use Rattle.checks.specs.Answer.{taken}
 use Rattle.slicing.specs.Good.{Ordered}
 use Rattle.slicing.specs.Recorded.{Recorded, items}
-use Rattle.arena.specs.Arena.{level, forward}
-use Rattle.arena.specs.Lazy.{nextWith, lastWith, held, walk, linksRight, linked, falling, lazyList}
+use Rattle.arena.specs.Arena.{level, forward, back}
+use Rattle.arena.specs.Lazy.{nextWith, lastWith, held, walk, linksRight, linked, falling, backsRight, lazyList}
 use Rattle.arena.specs.inside.Chain.{All, Chain, Linked}
+use Rattle.arena.specs.inside.Backs.{Backs, lastOf, Backed}
 use Rattle.arena.proofs.Walking.{next-none, next-first, next-second}
 use Rattle.maxplus.proofs.Following.{each, links-all, walk-back, walk-stops}
 use Rattle.maxplus.proofs.Answering.{under-first, rest-lazy}
@@ -43,9 +44,15 @@ ordered-falling (x ∷ y ∷ l) o =
     each _ _ (lt-ltb (y .item .m) (x .item .m) (next .0))
     (each _ _ (lt-ltb (x .item .p) (y .item .p) (next .1)) (ordered-falling (y ∷ l) (o .1)))
 
-pub holds-lazy : (a : List ℕ) (rs : List ℕ) → Linked a 0 rs → All (λ x. x ≤ 512) rs → length rs ≤ 512 → Ordered (items (held a 0 [] rs)) → lazyList a ≡ taken (held a 0 [] rs)
-unfolding lastWith
-holds-lazy a rs l low few o =
+backs-right : (a : List ℕ) (before : ℕ) (rs : List ℕ) → Backs a before rs → back a 0 ≡ lastOf before rs → backsRight a before rs ≡ true
+unfolding backsRight lastOf
+backs-right a before [] b head = eq-eqb (back a 0) before head
+backs-right a before (r ∷ rs) b head =
+    each _ (backsRight a r rs) (eq-eqb (back a r) before (b .0)) (backs-right a r rs (b .1) head)
+
+pub holds-lazy : (a : List ℕ) (rs : List ℕ) → Linked a 0 rs → Backed a 0 rs → All (λ x. x ≤ 512) rs → length rs ≤ 512 → Ordered (items (held a 0 [] rs)) → lazyList a ≡ taken (held a 0 [] rs)
+unfolding lastWith lastOf
+holds-lazy a rs l b low few o =
     let top = l .top in
     let links : (k : ℕ) → k < 8 → forward a 0 k ≡ nextWith a k rs = λ k h. l .links .at k (omega arith) in
     rest-lazy a 0 0 top rs
@@ -55,4 +62,5 @@ holds-lazy a rs l low few o =
       chain = chain-linked a rs (l .chain);
       falls = ordered-falling (held a 0 [] rs) o;
       under = under-first 0 0 (held a 0 [] rs);
+      backs = backs-right a 0 rs (b .backs) (b .head);
     })

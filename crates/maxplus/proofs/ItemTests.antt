@@ -5,7 +5,7 @@ use mathlib.Core.Bool.{Bool, true, false}
 use Prim.Native.Nat.{ℕ, _≤_, _<_}
 use native.Mathlib.Omega.{arith}
 use lib.Dec.{ltb}
-use borrow.Author.Tests.{ltb-true, ltb-false, le-leb, lt-leb}
+use borrow.Author.Tests.{ltb-true, ltb-false, lt-ltb, le-ltb}
 use Rattle.maxplus.specs.declared.Reading.{Reading}
 use Rattle.forwards.specs.inside.Due.{Decides}
 use Rattle.maxplus.specs.inside.Pass.{refusedReading, readAt, Follows}
@@ -21,14 +21,10 @@ pub follow-if : (count m p n q : ℕ) → (count ≡ 0 → ⊥) → n < m → De
 follow-if count m p n q h k = follow-by count m p n q (ltb p q) h k refl
 
 -- Check 21.
-pub place-low : (count place m p : ℕ) (z : Reading) → place < 1 → z ≡ refusedReading 21 → z ≡ readAt count place m p
+pub place-out : (count at m p : ℕ) (z : Reading) → count ≤ at → z ≡ refusedReading 21 → z ≡ readAt count at m p
 unfolding readAt
-place-low count place m p z h e = e ∙ rw (lt-leb 1 place h)
+place-out count at m p z h e = e ∙ rw (le-ltb at count h)
 
-pub place-high : (count place m p : ℕ) (z : Reading) → 1 ≤ place → count < place → z ≡ refusedReading 21 → z ≡ readAt count place m p
+pub place-in : (count at m p : ℕ) → at < count → record { number = 0; m = m; p = p } ≡ readAt count at m p
 unfolding readAt
-place-high count place m p z h k e = e ∙ rw (le-leb 1 place h, lt-leb place count k)
-
-pub place-in : (count place m p : ℕ) → 1 ≤ place → place ≤ count → record { number = 0; m = m; p = p } ≡ readAt count place m p
-unfolding readAt
-place-in count place m p h k = rw (le-leb 1 place h, le-leb place count k)
+place-in count at m p h = rw (lt-ltb at count h)

@@ -1,34 +1,33 @@
--- What the walk of the reading call keeps: the records passed make due the records that the row of links names, the sums lead to the next one, and the arena holds a list just where what is left of the walk can follow them.
--- A turn settles the links of one record more, puts its forwards in their places of the row, and renews the sums below its level.
+-- What the walk of a reading call keeps: the records passed make due the records that the row of links names, the sums lead to the next one, their items stand in the rows, and the arena holds a list just where what is left of the walk can follow them.
+-- A turn settles the links of one record more, puts its forwards in their places of the row of links, renews the sums below its level, and lays its item out.
 use mathlib.Core.Path.{_≡_, refl, sym, ap, subst, _∙_}
-use mathlib.Core.Bool.{Bool, true, false, not, cond}
+use mathlib.Core.Bool.{Bool, true, false, not}
 use mathlib.Core.List.{List, [], _∷_, _++_, append-nil, append-assoc, map-append}
 use Prim.Native.Nat.{ℕ, suc, _+_, _-_, _≤_, _<_}
 use native.Mathlib.Omega.{arith}
-use lib.Dec.{eqb}
-use lib.ListN.{length, getD, replicate, length-append, length-map, List·getD-append}
-use lib.Seq.{getD-at}
-use borrow.Author.Tests.{eqb-true, eqb-false}
-use Rattle.checks.specs.Limits.{bufferWords}
+use lib.ListN.{length, getD, set, replicate, length-append, length-map, length-set, List·getD-append}
+use lib.Seq.{getD-at, getD-set-same, getD-set-other}
+use Rattle.checks.specs.Limits.{bufferWords, mostSizes}
 use Rattle.checks.specs.Answer.{taken}
 use Rattle.slicing.specs.Item.{Item, size}
 use Rattle.slicing.specs.Recorded.{Recorded, items}
-use Rattle.maxplus.specs.declared.Reading.{Reading}
 use Rattle.maxplus.specs.declared.read_list.Item.{Item as Read}
-use Rattle.arena.specs.Arena.{word, level, mWord, adjust}
+use Rattle.maxplus.specs.declared.read_list.Counted.{Counted}
+use Rattle.arena.specs.Arena.{word, level, mWord, adjust, back}
 use Rattle.arena.specs.Lazy.{lastWith, trueP, held, lazyList}
 use Rattle.arena.specs.inside.Chain.{pUnder, after}
 use Rattle.arena.specs.inside.Sums.{Summable, Enterable, Suffixes, TrueP, Renewed}
+use Rattle.arena.specs.inside.Backs.{lastOf}
 use Rattle.arena.proofs.Cases.{lt-or-ge}
 use Rattle.arena.proofs.Summing.{suffixes-agree}
 use Rattle.arena.proofs.ListLaws.{held-length}
 use Rattle.arena.proofs.HeldLaws.{passedSums, sums-on}
-use Rattle.maxplus.specs.Read.{readItem, reading}
+use Rattle.arena.proofs.BackLaws.{last-of-more}
 use Rattle.forwards.specs.inside.Due.{Decides, Are, Passed}
-use Rattle.maxplus.specs.inside.Pass.{refusedReading, readAt, Stands, Follows}
+use Rattle.maxplus.specs.inside.Pass.{Rows, LaidOut, Stands, Follows}
 use Rattle.forwards.proofs.Decisions.{decided, refuted}
-use Rattle.maxplus.proofs.Following.{due, due-here, due-past, Rest, Meets, Turn, turn, turn-back, rest-full, rest-over, rest-none}
-use Rattle.maxplus.proofs.Answering.{lazy-rest, rest-lazy, no-list, list-read}
+use Rattle.maxplus.proofs.Following.{due, due-here, due-past, Rest, Meets, Turn, turn, turn-back, rest-full, rest-over, rest-back, rest-none}
+use Rattle.maxplus.proofs.Answering.{uncounted, lazy-rest, rest-lazy, no-list, list-laid}
 
 -- The row of links names the records that are due after those passed.
 abbrev pub Dues : List ℕ → List ℕ → List ℕ → Type 0
@@ -67,8 +66,25 @@ held-more a before (x ∷ xs) r =
 size-items : (a xs : List ℕ) → length (items (held a 0 [] xs)) ≡ length xs
 size-items a xs = length-map (held a 0 [] xs) (λ (r : Recorded). r .item) ∙ held-length a 0 [] xs
 
--- What the walk keeps, come to the record `next` after `count` others.
-pub record Walking (a : List ℕ) (place : ℕ) (e s : List ℕ) (next count : ℕ) (before found : Read) : Type 0 where
+-- One more item in the rows.
+rows-more : (l : List Item) (ms ps : List ℕ) (n m p : ℕ) → length l ≡ n → n < length ms → n < length ps → Rows l ms ps → Rows (l ++ (size m p ∷ [])) (set ms n m) (set ps n p)
+rows-more l ms ps n m p long room-m room-p k =
+    record {
+      at =
+          λ i h.
+          let all = length-append l (size m p ∷ []) in
+          lt-or-ge i n
+          (λ b.
+          rw (getD-set-other ms n i m 0 (λ e. omega arith), getD-set-other ps n i p 0 (λ e. omega arith))
+          (List·getD-append l (size m p ∷ []) (size 0 0) i (omega arith) ∙ k .at i (omega arith)))
+          (λ b.
+          let here : n ≡ i = omega arith in
+          subst (λ (j : ℕ). getD (l ++ (size m p ∷ [])) j (size 0 0) ≡ size (getD (set ms n m) j 0) (getD (set ps n p) j 0)) here
+          (rw (getD-set-same ms n m 0 room-m, getD-set-same ps n p 0 room-p) (getD-at l (size m p) [] (size 0 0) n long)));
+    }
+
+-- What the walk keeps, come to the record `next` after `count` others, of which `last` is the last.
+pub record Walking (a ms ps e s : List ℕ) (next last count : ℕ) (before : Read) : Type 0 where
   pub passed : List ℕ
   pub long : bufferWords ≤ length a
   pub few : count ≤ 512
@@ -79,15 +95,18 @@ pub record Walking (a : List ℕ) (place : ℕ) (e s : List ℕ) (next count : �
   pub sums : Suffixes (passedSums a 0 passed) s
   pub down : (l : List Recorded) → lazyList a ≡ taken l → (rs : List ℕ) × Rest a (512 - count) passed count (before .m) (before .p) rs
   pub up : (rs : List ℕ) → Rest a (512 - count) passed count (before .m) (before .p) rs → lazyList a ≡ taken (held a 0 [] (passed ++ rs))
-  pub met : 1 ≤ place → place ≤ count → getD (items (held a 0 [] passed)) (place - 1) (size 0 0) ≡ size (found .m) (found .p)
+  pub last-is : last ≡ lastOf 0 passed
+  pub ms-long : length ms ≡ mostSizes
+  pub ps-long : length ps ≡ mostSizes
+  pub laid : Rows (items (held a 0 [] passed)) ms ps
 
 module _ (a : List ℕ) (long : bufferWords ≤ length a) (head : level a 0 ≡ 8) where
   pub head-enterable : Enterable a 0 (replicate 9 0)
   head-enterable = record { has = omega arith; nine = refl; none = refl }
 
-  pub walking-start : (place : ℕ) (e₀ e s : List ℕ) (v next : ℕ) (before found : Read) → length e₀ ≡ 8 → Passed a 0 e₀ e → Suffixes (adjust a 0) s → v ≡ word a 0 3 → next ≡ v → Walking a place e s next 0 before found
-  unfolding lastWith
-  walking-start place e₀ e s v next before found eight links entered v-is next-is =
+  pub walking-start : (ms ps e₀ e s : List ℕ) (v next : ℕ) (before : Read) → length ms ≡ mostSizes → length ps ≡ mostSizes → length e₀ ≡ 8 → Passed a 0 e₀ e → Suffixes (adjust a 0) s → v ≡ word a 0 3 → next ≡ v → Walking a ms ps e s next 0 0 before
+  unfolding lastWith lastOf held
+  walking-start ms ps e₀ e s v next before ms-long ps-long eight links entered v-is next-is =
       record {
         passed = [];
         long = long;
@@ -99,10 +118,13 @@ module _ (a : List ℕ) (long : bufferWords ≤ length a) (head : level a 0 ≡ 
         sums = sums-first a s entered;
         down = lazy-rest a (before .m) (before .p) head;
         up = rest-lazy a (before .m) (before .p) head;
-        met = λ h k. absurd (omega arith);
+        last-is = refl;
+        ms-long = ms-long;
+        ps-long = ps-long;
+        laid = record { at = λ i h. absurd (omega arith) };
       }
 
-module _ (a : List ℕ) (place : ℕ) (e s : List ℕ) (next count : ℕ) (before found : Read) (w : Walking a place e s next count before found) where
+module _ (a ms ps e s : List ℕ) (next last count : ℕ) (before : Read) (w : Walking a ms ps e s next last count before) where
   module _ (more : next ≡ 0 → ⊥) where
     -- Where the arena holds a list, the walk may meet one record more,
     room : (l : List Recorded) → lazyList a ≡ taken l → count < 512
@@ -125,26 +147,33 @@ module _ (a : List ℕ) (place : ℕ) (e s : List ℕ) (next count : ℕ) (befor
         turn a (512 - (count + 1)) (w .passed) count (before .m) (before .p) next (w .first) more (k .0)
         (subst (λ (n : ℕ). Rest a n (w .passed) count (before .m) (before .p) (k .0)) (left (room l t)) (k .1))
 
-    pub walk-barred : (z : Reading) (b : Bool) → Decides b (Stands a count next) → not b ≡ true → z ≡ refusedReading 20 → z ≡ reading (readItem a place)
-    walk-barred z b d h q =
-        no-list a place (w .long) z
+    pub walk-barred : (c : Counted) (b : Bool) → Decides b (Stands a count last next) → not b ≡ true → c ≡ uncounted 20 → LaidOut (lazyList a) ms ps c
+    walk-barred c b d h q =
+        no-list a ms ps c
         (λ l t.
         let meets = met-next l t .meets in
-        refuted b (Stands a count next) d h (record { room = room l t; few = meets .few; some = meets .some; most = meets .most }))
+        refuted b (Stands a count last next) d h
+        (record {
+          room = room l t;
+          few = meets .few;
+          behind = meets .behind ∙ sym (w .last-is);
+          some = meets .some;
+          most = meets .most;
+        }))
         q
 
     -- What the calls on the record ask for.
-    pub walk-summable : (b : Bool) → Decides b (Stands a count next) → not b ≡ false → Summable a next s
+    pub walk-summable : (b : Bool) → Decides b (Stands a count last next) → not b ≡ false → Summable a next s
     walk-summable b d h =
-        let stands = decided b (Stands a count next) d h in
+        let stands = decided b (Stands a count last next) d h in
         let few = stands .few in
         let long = w .long in
         record { has = omega arith; low = stands .some; high = stands .most; nine = w .sums .nine }
 
-    pub walk-undue : (z : Reading) (b : Bool) → Decides b (Are e (level a next) next) → not b ≡ true → z ≡ refusedReading 20 → z ≡ reading (readItem a place)
+    pub walk-undue : (c : Counted) (b : Bool) → Decides b (Are e (level a next) next) → not b ≡ true → c ≡ uncounted 20 → LaidOut (lazyList a) ms ps c
     unfolding Are
-    walk-undue z b d h q =
-        no-list a place (w .long) z
+    walk-undue c b d h q =
+        no-list a ms ps c
         (λ l t.
         let meets = met-next l t .meets in
         let most = meets .most in
@@ -159,14 +188,14 @@ module _ (a : List ℕ) (place : ℕ) (e s : List ℕ) (next count : ℕ) (befor
       meets-follows : Meets a (w .passed) count (before .m) (before .p) next → Follows count (before .m) (before .p) (x .m) (x .p)
       meets-follows z h = let f = z .follows h in let t = true-p in (omega arith, omega arith)
 
-      pub walk-unordered : (z : Reading) (b : Bool) → Decides b (Follows count (before .m) (before .p) (x .m) (x .p)) → not b ≡ true → z ≡ refusedReading 20 → z ≡ reading (readItem a place)
-      walk-unordered z b d h q =
-          no-list a place (w .long) z
+      pub walk-unordered : (c : Counted) (b : Bool) → Decides b (Follows count (before .m) (before .p) (x .m) (x .p)) → not b ≡ true → c ≡ uncounted 20 → LaidOut (lazyList a) ms ps c
+      walk-unordered c b d h q =
+          no-list a ms ps c
           (λ l t. refuted b (Follows count (before .m) (before .p) (x .m) (x .p)) d h (meets-follows (met-next l t .meets)))
           q
 
       -- The turn: the record is passed, and what is left is one record less.
-      module _ (stands : Stands a count next) (follows : Follows count (before .m) (before .p) (x .m) (x .p)) (named : Are e (level a next) next) where
+      module _ (stands : Stands a count last next) (follows : Follows count (before .m) (before .p) (x .m) (x .p)) (named : Are e (level a next) next) where
         abbrev longer : List ℕ
         longer = w .passed ++ (next ∷ [])
 
@@ -177,6 +206,7 @@ module _ (a : List ℕ) (place : ℕ) (e s : List ℕ) (next count : ℕ) (befor
             let t = true-p in
             record {
               few = stands .few;
+              behind = stands .behind ∙ w .last-is;
               some = stands .some;
               most = most;
               links =
@@ -203,20 +233,17 @@ module _ (a : List ℕ) (place : ℕ) (e s : List ℕ) (next count : ℕ) (befor
             ∙ map-append (λ (r : Recorded). r .item) (held a 0 [] (w .passed)) (itemOf a (w .passed) next ∷ [])
             ∙ ap (λ (z : Item). items (held a 0 [] (w .passed)) ++ (z ∷ [])) same-item
 
-        met-on : (y : Read) (b : Bool) → eqb (count + 1) place ≡ b → y .m ≡ cond b (x .m) (found .m) → y .p ≡ cond b (x .p) (found .p) → 1 ≤ place → place ≤ count + 1 → getD (items (held a 0 [] longer)) (place - 1) (size 0 0) ≡ size (y .m) (y .p)
-        met-on y true t m-is p-is h k =
-            let last : place - 1 ≡ count = omega (arith, eqb-true (count + 1) place t) in
-            rw (longer-held, m-is, p-is) (getD-at (items (held a 0 [] (w .passed))) (size (x .m) (x .p)) [] (size 0 0) (place - 1) (size-items a (w .passed) ∙ w .counted ∙ sym last))
-        met-on y false t m-is p-is h k =
-            let earlier : place ≤ count = omega (arith, eqb-false (count + 1) place t) in
-            let size-is = size-items a (w .passed) in
-            let size-count = w .counted in
-            rw (longer-held, m-is, p-is)
-            (List·getD-append (items (held a 0 [] (w .passed))) (size (x .m) (x .p) ∷ []) (size 0 0) (place - 1) (omega arith) ∙ w .met h earlier)
+        laid-on : Rows (items (held a 0 [] longer)) (set ms count (x .m)) (set ps count (x .p))
+        laid-on =
+            let room = stands .room in
+            let ms-long = w .ms-long in
+            let ps-long = w .ps-long in
+            let size-is : length (items (held a 0 [] (w .passed))) ≡ count = size-items a (w .passed) ∙ w .counted in
+            rw longer-held (rows-more (items (held a 0 [] (w .passed))) ms ps count (x .m) (x .p) size-is (omega arith) (omega arith) (w .laid))
 
         module _ (e₂ s₂ : List ℕ) (links : Passed a next e e₂) (renewed : Renewed a next s s₂) where
-          pub walk-on : (y : Read) → y .m ≡ cond (eqb (count + 1) place) (x .m) (found .m) → y .p ≡ cond (eqb (count + 1) place) (x .p) (found .p) → (v onward : ℕ) → v ≡ word a next 3 → onward ≡ v → Walking a place e₂ s₂ onward (count + 1) x y
-          walk-on y m-is p-is v onward v-is onward-is =
+          pub walk-on : (v onward : ℕ) → v ≡ word a next 3 → onward ≡ v → Walking a (set ms count (x .m)) (set ps count (x .p)) e₂ s₂ onward next (count + 1) x
+          walk-on v onward v-is onward-is =
               let room = stands .room in
               record {
                 passed = longer;
@@ -229,14 +256,28 @@ module _ (a : List ℕ) (place : ℕ) (e s : List ℕ) (next count : ℕ) (befor
                 sums = sums-more a next (w .passed) s₂ (renewed (passedSums a 0 (w .passed)) (w .sums));
                 down = down-on;
                 up = up-on;
-                met = met-on y (eqb (count + 1) place) refl m-is p-is;
+                last-is = sym (last-of-more 0 (w .passed) next);
+                ms-long = length-set ms count (x .m) ∙ w .ms-long;
+                ps-long = length-set ps count (x .p) ∙ w .ps-long;
+                laid = laid-on;
               }
 
   module _ (over : next ≡ 0) where
-    pub walk-loose : (z : Reading) (b : Bool) → Decides b (Are e 8 0) → not b ≡ true → z ≡ refusedReading 20 → z ≡ reading (readItem a place)
+    -- The head's back word is the last record passed,
+    pub walk-unturned : (c : Counted) (v u : ℕ) → v ≡ back a 0 → u ≡ v → (u ≡ last → ⊥) → c ≡ uncounted 20 → LaidOut (lazyList a) ms ps c
+    walk-unturned c v u v-is u-is h q =
+        no-list a ms ps c
+        (λ l t.
+        let k = w .down l t in
+        let behind = rest-back a (512 - count) (w .passed) count (before .m) (before .p) (k .0) (w .first ∙ over) (k .1) in
+        h (u-is ∙ v-is ∙ behind ∙ sym (w .last-is)))
+        q
+
+    -- and no link is due.
+    pub walk-loose : (c : Counted) (b : Bool) → Decides b (Are e 8 0) → not b ≡ true → c ≡ uncounted 20 → LaidOut (lazyList a) ms ps c
     unfolding Are
-    walk-loose z b d h q =
-        no-list a place (w .long) z
+    walk-loose c b d h q =
+        no-list a ms ps c
         (λ l t.
         let k = w .down l t in
         let none = rest-over a (512 - count) (w .passed) count (before .m) (before .p) (k .0) (w .first ∙ over) (k .1) in
@@ -250,14 +291,14 @@ module _ (a : List ℕ) (place : ℕ) (e s : List ℕ) (next count : ℕ) (befor
           lt-or-ge 0 k (λ low. sym (w .dues k low h) ∙ decided b (Are e 8 0) ends all k low h)
           (λ low. let none : 0 ≡ k = omega arith in subst (λ (i : ℕ). due a (w .passed) i ≡ 0) none (w .first ∙ over))
 
-      holds : lazyList a ≡ taken (held a 0 [] (w .passed))
-      holds =
-          w .up [] (rest-none a (512 - count) (w .passed) count (before .m) (before .p) none-left)
+      holds : back a 0 ≡ lastOf 0 (w .passed) → lazyList a ≡ taken (held a 0 [] (w .passed))
+      holds behind =
+          w .up [] (rest-none a (512 - count) (w .passed) count (before .m) (before .p) none-left behind)
           ∙ ap (λ (l : List ℕ). taken (held a 0 [] l)) (append-nil (w .passed))
 
       size-held : length (held a 0 [] (w .passed)) ≡ count
       size-held = held-length a 0 [] (w .passed) ∙ w .counted
 
-      pub walk-read : (z : Reading) → z ≡ readAt count place (found .m) (found .p) → z ≡ reading (readItem a place)
-      walk-read z q =
-          list-read a place (w .long) z (size (found .m) (found .p)) count (held a 0 [] (w .passed)) holds size-held (w .met) q
+      pub walk-laid : (v u : ℕ) → v ≡ back a 0 → u ≡ v → u ≡ last → LaidOut (lazyList a) ms ps (record { number = 0; count = count })
+      walk-laid v u v-is u-is h =
+          list-laid a ms ps count (held a 0 [] (w .passed)) (holds (sym v-is ∙ sym u-is ∙ h ∙ w .last-is)) size-held (w .few) (w .laid)

@@ -1,17 +1,19 @@
-// The reading call: one pass over the list that an arena holds.
+// The reading call: one pass over the list that an arena holds, which lays its items out in two rows, and then the item at
+// a place from either end.
 ghost use mathlib.Core.Path.{_≡_};
-ghost use mathlib.Core.Bool.{cond};
 ghost use Prim.Native.Nat.{_≤_};
-ghost use lib.ListN.{length};
-ghost use Rattle.checks.specs.Limits.{bufferWords};
+ghost use lib.ListN.{length, getD};
+ghost use Rattle.checks.specs.Limits.{bufferWords, mostSizes};
 ghost use Rattle.arena.specs.Arena.{level, mWord};
+ghost use Rattle.arena.specs.Lazy.{lazyList};
 ghost use Rattle.arena.specs.inside.Sums.{Summable, TrueP};
-ghost use Rattle.maxplus.specs.Read.{readItem, reading};
+ghost use Rattle.maxplus.specs.Read.{readItem, readLow, reading};
 ghost use Rattle.forwards.specs.inside.Due.{Decides};
-ghost use Rattle.maxplus.specs.inside.Pass.{refusedReading, readAt, Stands, Follows};
+ghost use Rattle.maxplus.specs.inside.Pass.{refusedReading, readAt, Stands, Follows, arenaList, LaidOut};
 use crate::Reading;
 use arena::sums::enter;
 use arena::sums::true_p;
+use arena::words::BACK;
 use arena::words::FORWARD;
 use arena::words::LEVEL;
 use arena::words::M;
@@ -32,21 +34,37 @@ pub struct Item {
     pub p: u32,
 }
 
+// What a pass finds: the number of the check that fails, or 0, and how many items the list has.
+pub struct Counted {
+    pub number: u32,
+    pub count: u32,
+}
+
 fn refused(number: u32) -> Reading
     ensures { λ r. ⌜ r ≡ refusedReading number ⌝ }
 {
     Reading { number, m: 0, p: 0 }
 }
 
-// Whether record r may stand on a list after `count` others, by their number, its own and its level.
-fn may_stand(arena: &[u32], count: u32, r: usize) -> bool
+fn not_counted(number: u32) -> Counted
+    ensures { λ c. ⌜ c ≡ record { number = number; count = 0 } ⌝ }
+{
+    Counted { number, count: 0 }
+}
+
+// Whether record r may stand on a list after `count` others, of which `last` is the last: by their number, its own, its
+// back word and its level. The back word is compared, and never followed.
+fn may_stand(arena: &[u32], count: u32, last: usize, r: usize) -> bool
     requires { ⌜ bufferWords ≤ length (now arena) ⌝ }
-    ensures { λ b. ⌜ Decides b (Stands (now (arena .entry)) count r) ⌝ }
+    ensures { λ b. ⌜ Decides b (Stands (now (arena .entry)) count last r) ⌝ }
 {
     if MOST <= count {
         return false;
     }
     if SIZES < r {
+        return false;
+    }
+    if wide(get(arena, r, BACK)) != last {
         return false;
     }
     let level = wide(get(arena, r, LEVEL));
@@ -84,88 +102,108 @@ fn may_follow(count: u32, before: Item, item: Item) -> bool
     before.p < item.p
 }
 
-// The word if it is wanted, and else the other.
-fn either(wanted: bool, word: u32, other: u32) -> u32
-    ensures { λ r. ⌜ r ≡ cond wanted word other ⌝ }
-{
-    if wanted { word } else { other }
-}
-
-// Remembers an item if it is the one that is asked for. It chooses word by word: a choice between whole items is compiled
-// to one that packs m and p into one word for every record.
-fn chosen(wanted: bool, item: Item, other: Item) -> Item
-    ensures { λ z. ⌜ z .m ≡ cond wanted (item .m) (other .m) ⌝ }
-    ensures { λ z. ⌜ z .p ≡ cond wanted (item .p) (other .p) ⌝ }
-{
-    Item {
-        m: either(wanted, item.m, other.m),
-        p: either(wanted, item.p, other.p),
-    }
-}
-
-// Check 21, and then the item that was remembered.
-fn item_or_place(count: u32, place: u32, found: Item) -> Reading
-    ensures { λ r. ⌜ r ≡ readAt count place (found .m) (found .p) ⌝ }
-{
-    if place < 1 {
-        return refused(checks::PLACE);
-    }
-    if count < place {
-        return refused(checks::PLACE);
-    }
-    Reading {
-        number: checks::TAKEN,
-        m: found.m,
-        p: found.p,
-    }
-}
-
-// The walk from the head: `next` is the record that it has come to, `due` those that the higher links must come to, and
-// `sums` the sums that lead there.
-fn read_from_head(arena: &[u32], place: u32) -> Reading
+// The walk from the head, which lays m and true p of each item out in the rows: `next` is the record that it has come to,
+// `last` the one before it, `due` those that the higher links must come to, and `sums` the sums that lead there.
+fn lay_out(arena: &[u32], ms: &mut [u32], ps: &mut [u32]) -> Counted
     requires { ⌜ (bufferWords ≤ length (now arena)) × (level (now arena) 0 ≡ 8) ⌝ }
-    ensures { λ r. ⌜ r ≡ reading (readItem (now (arena .entry)) place) ⌝ }
+    requires { ⌜ (length (now ms) ≡ mostSizes) × (length (now ps) ≡ mostSizes) ⌝ }
+    ensures { λ c. ⌜ LaidOut (lazyList (now (arena .entry))) (now (ms .exit)) (now (ps .exit)) c ⌝ }
 {
     let mut due = [0u32; 8];
     let mut sums = [0u32; 9];
     due_from_head(arena, &mut due);
     enter(arena, 0, &mut sums);
     let mut next = wide(get(arena, 0, FORWARD));
+    let mut last = 0;
     let mut count: u32 = 0;
     let mut before = Item { m: 0, p: 0 };
-    let mut found = Item { m: 0, p: 0 };
     while next != 0 {
-        if !may_stand(arena, count, next) {
-            return refused(checks::LAZY_LIST);
+        if !may_stand(arena, count, last, next) {
+            return not_counted(checks::LAZY_LIST);
         }
         let item = item_at(arena, next, &sums);
         if !may_follow(count, before, item) {
-            return refused(checks::LAZY_LIST);
+            return not_counted(checks::LAZY_LIST);
         }
         if !pass_links(arena, next, &mut due, &mut sums) {
-            return refused(checks::LAZY_LIST);
+            return not_counted(checks::LAZY_LIST);
         }
+        ms[count as usize] = item.m;
+        ps[count as usize] = item.p;
         count += 1;
-        found = chosen(count == place, item, found);
         before = item;
+        last = next;
         next = wide(get(arena, next, FORWARD));
     }
-    if !none_due(&due) {
-        return refused(checks::LAZY_LIST);
+    if wide(get(arena, 0, BACK)) != last {
+        return not_counted(checks::LAZY_LIST);
     }
-    item_or_place(count, place, found)
+    if !none_due(&due) {
+        return not_counted(checks::LAZY_LIST);
+    }
+    Counted {
+        number: checks::TAKEN,
+        count,
+    }
 }
 
-// m and true p of the item at a place of the list that the arena holds, counted from 1: checks 17, 20 and 21 on any
-// arena and any place.
+// Checks 17 and 20 on any arena, and the items of its list in the rows.
+fn items_of(arena: &[u32], ms: &mut [u32], ps: &mut [u32]) -> Counted
+    requires { ⌜ (length (now ms) ≡ mostSizes) × (length (now ps) ≡ mostSizes) ⌝ }
+    ensures { λ c. ⌜ LaidOut (arenaList (now (arena .entry))) (now (ms .exit)) (now (ps .exit)) c ⌝ }
+{
+    if arena.len() < WORDS {
+        return not_counted(checks::BUFFERS);
+    }
+    if get(arena, 0, LEVEL) != 8 {
+        return not_counted(checks::LAZY_LIST);
+    }
+    lay_out(arena, ms, ps)
+}
+
+// The item at a place of the rows, counted from 0, where it is one of the first `count`: check 21.
+fn item_or_place(ms: &[u32], ps: &[u32], count: u32, at: u32) -> Reading
+    requires { ⌜ (count ≤ length (now ms)) × (count ≤ length (now ps)) ⌝ }
+    ensures { λ r. ⌜ r ≡ readAt count at (getD (now (ms .entry)) at 0) (getD (now (ps .entry)) at 0) ⌝ }
+{
+    if count <= at {
+        return refused(checks::PLACE);
+    }
+    Reading {
+        number: checks::TAKEN,
+        m: ms[at as usize],
+        p: ps[at as usize],
+    }
+}
+
+// m and true p of the item at a place of the list that the arena holds, counted from 1 at its top: checks 17, 20 and 21 on
+// any arena and any place.
 pub fn read(arena: &[u32], place: u32) -> Reading
     ensures { λ r. ⌜ r ≡ reading (readItem (now (arena .entry)) place) ⌝ }
 {
-    if arena.len() < WORDS {
-        return refused(checks::BUFFERS);
+    let mut ms = [0u32; SIZES];
+    let mut ps = [0u32; SIZES];
+    let list = items_of(arena, &mut ms, &mut ps);
+    if list.number != checks::TAKEN {
+        return refused(list.number);
     }
-    if get(arena, 0, LEVEL) != 8 {
-        return refused(checks::LAZY_LIST);
+    item_or_place(&ms, &ps, list.count, std::num::wrapping_sub_u32(place, 1))
+}
+
+// The same from the low end, where m is least: place 1 is the end of the walk.
+pub fn read_low(arena: &[u32], place: u32) -> Reading
+    ensures { λ r. ⌜ r ≡ reading (readLow (now (arena .entry)) place) ⌝ }
+{
+    let mut ms = [0u32; SIZES];
+    let mut ps = [0u32; SIZES];
+    let list = items_of(arena, &mut ms, &mut ps);
+    if list.number != checks::TAKEN {
+        return refused(list.number);
     }
-    read_from_head(arena, place)
+    item_or_place(
+        &ms,
+        &ps,
+        list.count,
+        std::num::wrapping_sub_u32(list.count, place),
+    )
 }

@@ -1,25 +1,48 @@
 -- What the parts of the pass over a list answer. The contracts inside the reading call cite these, and no public one does.
 use mathlib.Core.Path.{_≡_}
-use mathlib.Core.Bool.{cond, _&&_}
-use mathlib.Core.List.{List}
+use mathlib.Core.Bool.{cond}
+use mathlib.Core.List.{List, []}
 use Prim.Native.Nat.{ℕ, _≤_, _<_}
-use lib.Dec.{leb}
-use Rattle.checks.specs.Limits.{mostSizes}
-use Rattle.arena.specs.Arena.{level}
+use lib.Dec.{leb, ltb}
+use lib.ListN.{length, getD}
+use Rattle.checks.specs.Check.{Buffers}
+use Rattle.checks.specs.Limits.{mostSizes, bufferWords}
+use Rattle.checks.specs.Answer.{Answer, ask, number, outcome}
+use Rattle.slicing.specs.Item.{Item, size}
+use Rattle.slicing.specs.Recorded.{Recorded, items}
+use Rattle.arena.specs.Arena.{level, back}
+use Rattle.arena.specs.Lazy.{lazyList}
 use Rattle.maxplus.specs.declared.Reading.{Reading}
+use Rattle.maxplus.specs.declared.read_list.Counted.{Counted}
 
 -- A call that is refused.
 abbrev pub refusedReading : ℕ → Reading
 refusedReading n = record { number = n; m = 0; p = 0 }
 
--- What is answered on a list of `count` items, of which the item at the place is (m, p).
+-- What is answered on a list of `count` items, of which the item at the place, counted from 0, is (m, p).
 unfoldable pub readAt : ℕ → ℕ → ℕ → ℕ → Reading
-readAt count place m p = cond (leb 1 place && leb place count) (record { number = 0; m = m; p = p }) (refusedReading 21)
+readAt count at m p = cond (ltb at count) (record { number = 0; m = m; p = p }) (refusedReading 21)
 
--- Record r may stand on a list after `count` others: a list has at most 512 records, numbered 1 to 512, of levels 1 to 8.
-pub record Stands (a : List ℕ) (count r : ℕ) : Type 0 where
+-- The list that an arena holds, where it is long enough: checks 17 and 20.
+unfoldable pub arenaList : List ℕ → Answer (List Recorded)
+arenaList a = ask (leb bufferWords (length a)) Buffers (lazyList a)
+
+-- The rows have m and p of each of the items.
+pub record Rows (l : List Item) (ms ps : List ℕ) : Type 0 where
+  pub at : (i : ℕ) → i < length l → getD l i (size 0 0) ≡ size (getD ms i 0) (getD ps i 0)
+
+-- What a pass finds of the list r that an arena holds, or of the refusal: its number, how many items it has, and the items in the rows, which are as long as a list can be.
+pub record LaidOut (r : Answer (List Recorded)) (ms ps : List ℕ) (c : Counted) : Type 0 where
+  pub number-is : c .number ≡ number r
+  pub count-is : c .count ≡ outcome r 0 length
+  pub few : c .count ≤ mostSizes
+  pub rows : Rows (outcome r [] items) ms ps
+
+-- Record r may stand on a list after `count` others, of which `last` is the last: a list has at most 512 records, numbered 1 to 512, of levels 1 to 8, each with the record before it as its back word.
+pub record Stands (a : List ℕ) (count last r : ℕ) : Type 0 where
   pub room : count < mostSizes
   pub few : r ≤ mostSizes
+  pub behind : back a r ≡ last
   pub some : 1 ≤ level a r
   pub most : level a r ≤ 8
 
