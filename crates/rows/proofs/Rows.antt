@@ -21,9 +21,9 @@ use Rattle.facefile.specs.Format.{header, onePart, atEnd, faceOf}
 use Rattle.facefile.proofs.Example.{example}
 use Rattle.levels.specs.Levels.{timesFour, uncutLevel, largestPower, topLevel}
 use Rattle.arena.specs.Arena.{word}
-use Rattle.arena.specs.Lazy.{nextWith, lastWith, sumFrom, trueP, held, walk, linksRight, linked, falling, lazyList}
+use Rattle.arena.specs.Lazy.{nextWith, lastWith, sumFrom, trueP, held, walk, linksRight, linked, falling, backsRight, lazyList}
 use Rattle.maxplus.specs.declared.Reading.{Reading}
-use Rattle.maxplus.specs.Read.{readItem, reading}
+use Rattle.maxplus.specs.Read.{readItem, readLow, reading}
 use Rattle.lent.specs.Lent.{writtenOver}
 use Rattle.lent.specs.Questions.{levelCount, levelRange, levelsLent, ribGiven, openingGiven, buffersLent, outputLent}
 use Rattle.writing.specs.Words.{listWords}
@@ -58,8 +58,10 @@ pub data Row : Type 0 where
   tops : List ℕ → ℕ → ℕ → Row
   -- A size number and its uncut level.
   uncuts : ℕ → ℕ → Row
-  -- A stored p, the adjust that it is under, and the true p.
+  -- A stored p, the adjust that it is under, and the true p, from either end.
   reads : ℕ → ℕ → ℕ → Row
+  -- The back words of the head and of two items, and a place: what is read there from the top, and from the low end.
+  ends : ℕ → ℕ → ℕ → ℕ → Reading → Reading → Row
 
 abbrev same : List ℕ → List ℕ → Bool
 same [] [] = true
@@ -84,11 +86,24 @@ topHolds n level t =
 -- An arena of 16,384 words with one item, of m 60, in record 1 of level 1: its p is under the head's second adjust, and the other adjusts are 0.
 abbrev under : ℕ → ℕ → List ℕ
 under p adjust =
-    (8 ∷ 0 ∷ 0 ∷ 1 ∷ replicate 7 0) ++ (0 ∷ adjust ∷ replicate 6 0)
-    ++ (1 ∷ 60 ∷ p ∷ replicate 16_362 0)
+    (8 ∷ 0 ∷ 0 ∷ 1 ∷ replicate 7 0) ++ (0 ∷ adjust ∷ replicate 6 0) ++ (1 ∷ [])
+    ++ (1 ∷ 60 ∷ p ∷ replicate 16_361 0)
 
-abbrev readHolds : ℕ → Reading → Bool
-readHolds p r = eqb (r .number) 0 && eqb (r .m) 60 && eqb (r .p) p
+-- An arena of 16,384 words with two items, in records of level 1: m 60 and p 35 in record 2, and then m 50 and p 45 in record 1. These are the back words of the head and of the two.
+abbrev pair : ℕ → ℕ → ℕ → List ℕ
+pair last first second =
+    (8 ∷ 0 ∷ 0 ∷ 2 ∷ replicate 15 0) ++ (last ∷ [])
+    ++ (1 ∷ 50 ∷ 45 ∷ 0 ∷ replicate 15 0) ++ (second ∷ [])
+    ++ (1 ∷ 60 ∷ 35 ∷ 1 ∷ replicate 15 0) ++ (first ∷ replicate 16_324 0)
+
+abbrev sameReading : Reading → Reading → Bool
+sameReading a b = eqb (a .number) (b .number) && eqb (a .m) (b .m) && eqb (a .p) (b .p)
+
+abbrev item : ℕ → ℕ → Reading
+item m p = record { number = 0; m = m; p = p }
+
+abbrev noItem : ℕ → Reading
+noItem n = record { number = n; m = 0; p = 0 }
 
 -- The levels of four sizes.
 abbrev ones : List ℕ
@@ -116,7 +131,12 @@ holds (widths file rib given room looks output) =
 holds (heights given room n) = eqb (number (widthAsks 4 ones 0 given bufferWords bufferWords room)) n
 holds (tops file n level) = outcome (faceOf file) false (topHolds n level)
 holds (uncuts r level) = eqb (uncutLevel r) level
-holds (reads p adjust true-p) = readHolds true-p (reading (readItem (under p adjust) 1))
+holds (reads p adjust true-p) =
+    sameReading (reading (readItem (under p adjust) 1)) (item 60 true-p)
+    && sameReading (reading (readLow (under p adjust) 1)) (item 60 true-p)
+holds (ends last first second k top low) =
+    sameReading (reading (readItem (pair last first second) k)) top
+    && sameReading (reading (readLow (pair last first second) k)) low
 
 abbrev pub all : (Row → Bool) → List Row → Bool
 all f [] = true
@@ -290,8 +310,17 @@ rows =
     ∷ uncuts 8 2
     ∷ uncuts 16 3
     ∷ reads 35 4_294_967_291 30
+    ∷ ends 1 0 2 1 (item 60 35) (item 50 45)
+    ∷ ends 1 0 2 2 (item 50 45) (item 60 35)
+    ∷ ends 1 0 2 0 (noItem 21) (noItem 21)
+    ∷ ends 1 0 2 3 (noItem 21) (noItem 21)
+    ∷ ends 0 0 2 1 (noItem 20) (noItem 20)
+    ∷ ends 2 0 2 1 (noItem 20) (noItem 20)
+    ∷ ends 1 1 2 1 (noItem 20) (noItem 20)
+    ∷ ends 1 0 0 1 (noItem 20) (noItem 20)
+    ∷ ends 1 0 1 3 (noItem 20) (noItem 20)
     ∷ []
 
 pub rows-hold : all holds rows ≡ true
-unfolding widthFor seek walked heightsGiven widthAsks saveCall wordCall firstWord wordsFace wordsOf fileOf levelCount levelRange levelsLent ribGiven openingGiven buffersLent outputLent listAsks fitAsks header sizesAfter sizesFrom gaugeSizes gaugeEntry joinParts joinEntry kindEntry entry entries onePart atEnd faceOf merge turn gaugeShapes shapes smallest noTaller indexOf place listWords writtenOver timesFour uncutLevel largestPower topLevel word nextWith lastWith sumFrom trueP held walk linksRight linked falling lazyList readItem
+unfolding widthFor seek walked heightsGiven widthAsks saveCall wordCall firstWord wordsFace wordsOf fileOf levelCount levelRange levelsLent ribGiven openingGiven buffersLent outputLent listAsks fitAsks header sizesAfter sizesFrom gaugeSizes gaugeEntry joinParts joinEntry kindEntry entry entries onePart atEnd faceOf merge turn gaugeShapes shapes smallest noTaller indexOf place listWords writtenOver timesFour uncutLevel largestPower topLevel word nextWith lastWith sumFrom trueP held walk linksRight linked falling backsRight lazyList readItem readLow
 rows-hold = refl
