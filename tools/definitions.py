@@ -24,6 +24,7 @@ CALLS = [
     ("facefile/src/size_bytes.rt", "gauge_bytes"),
     ("levels/src/lib.rt", "fill"),
     ("maxplus/src/read_list.rt", "read"),
+    ("maxplus/src/read_list.rt", "read_low"),
     ("shapes/src/listing.rt", "list"),
     ("catalogue/src/cataloguing.rt", "widths"),
     ("fit/src/fitting.rt", "fit"),
@@ -64,6 +65,9 @@ THEOREMS = [
     ("walking/proofs/WalkLaws.antt", "looks-few"),
     ("walking/proofs/WalkLaws.antt", "run-out"),
     ("catalogue/proofs/CatalogueMeans.antt", "catalogue-means"),
+    ("maxplus/proofs/LowEnd.antt", "low-is-top"),
+    ("maxplus/proofs/LowEnd.antt", "last-is-first"),
+    ("maxplus/proofs/LowEnd.antt", "first-is-last"),
 ]
 
 IMPORT = re.compile(r"^(?:ghost |pub )*use Rattle·(\w+)(?:·\w+)?\.(specs|proofs)\.((?:inside\.)?\w+)\.\{([^}]*)\}", re.M)

@@ -40,7 +40,7 @@ def arenas(rng, program, count):
     answers = running.run(program, [case for i, left in enumerate(bases) for case in left.cases(f"arena {i}")])
     # Every other answer is the reader's.
     wrong = sum(not left.take(answer) for left, answer in zip(bases, answers[1::2]))
-    print(f"{len(bases)} arenas of the list call, {wrong} not as document 01 fixes them")
+    print(f"{len(bases)} arenas of the list call, {wrong} not as the documents fix them")
     return bases, wrong
 
 

@@ -4,8 +4,9 @@
     python3 tools/try_edits.py [CRATE/NAME...]
 
 The gate has the prover refuse each of them. Here each that edits code is compiled without a proof (`rt try`) into the
-program `cases`, or `cases_heights` where it is of the catalogue call, which is run on its stored cases; and into the
-other one where that writes what it should. It exits 1 where both do: then a stored case is missing.
+program `cases`, or `cases_heights` where it is of the catalogue call, or `cases_low` where it is of the reading call,
+which is run on its stored cases; and into the others where that writes what it should. It exits 1 where all do: then a
+stored case is missing.
 """
 
 import pathlib
@@ -15,8 +16,15 @@ import sys
 import tempfile
 
 ROOT = pathlib.Path(__file__).resolve().parent.parent
-PROGRAMS = ["cases", "cases_heights"]
-OF_HEIGHTS = ["walking", "catalogue"]
+PROGRAMS = ["cases", "cases_heights", "cases_low"]
+
+# The program in which an edit of a crate is tried first. Those of the other crates are tried in `cases`.
+FIRST = {
+    "walking": "cases_heights",
+    "catalogue": "cases_heights",
+    "forwards": "cases_low",
+    "maxplus": "cases_low",
+}
 RIGHT = "ok: the native program at -O3 ended and wrote what is expected"
 
 
@@ -49,7 +57,7 @@ def is_seen(folder, crate, edit):
     file = folder / "crates" / crate / name
     right = file.read_text()
     file.write_text(applied(right, changes))
-    programs = PROGRAMS[::-1] if crate in OF_HEIGHTS else PROGRAMS
+    programs = sorted(PROGRAMS, key=lambda program: program != FIRST.get(crate, "cases"))
     seen = not all(is_right(folder, program) for program in programs)
     file.write_text(right)
     return seen

@@ -25,6 +25,10 @@ class Levels:
         self.scattered = [scattered(size) for size in range(1, sizes + 1)]
         self.last_9 = self.ones[:-1] + [9]
 
+    def of_rib(self, rib):
+        """A table for a rib: one of four."""
+        return [self.ones, self.eights, self.own, self.scattered][rib % 4]
+
     def wrong(self):
         """Levels that are refused by 14 or 15, by their names."""
         return {

@@ -211,11 +211,21 @@ def replaced(words):
     return found
 
 
+def read_given(letter, arena, place, words, levels, rib):
+    """What the reading call is given: the letter of its end, an arena, and the words of it that the case replaces."""
+    return given(letter, levels, arena.fill, place, arena.length, 0, 0, rib, after=replaced(words))
+
+
 def read_case(name, arena, place, words, levels=b"", rib=0):
     """The reading call on an arena. These are the words of it that the case replaces: the model's has them already."""
-    number, m, p = read_model.read_call(arena, place)
-    text = given("r", levels, arena.fill, place, arena.length, 0, 0, rib, after=replaced(words))
-    return Case(name, text, lines(f"read {number} {m} {p}"))
+    wanted = lines("read" + row(read_model.read_call(arena, place)))
+    return Case(name, read_given("r", arena, place, words, levels, rib), wanted)
+
+
+def low_case(name, arena, place, words, levels=b"", rib=0):
+    """The same from the low end."""
+    wanted = lines("low" + row(read_model.read_low_call(arena, place)))
+    return Case(name, read_given("b", arena, place, words, levels, rib), wanted)
 
 
 def words_case(name, levels, rib, length):

@@ -39,12 +39,9 @@ class HeightCalls:
         self.levels = Levels(self.file, face_model.read(self.file).size_count())
         self.found = {}
 
-    def table(self, rib):
-        return [self.levels.ones, self.levels.eights, self.levels.own, self.levels.scattered][rib % 4]
-
     def call(self, what, heights, rib=0, number=None, table=None, arena=WORDS, scratch=WORDS, output=None):
         """Adds a call. A number that was worked out by hand is that of its answer."""
-        table = self.table(rib) if table is None else table
+        table = self.levels.of_rib(rib) if table is None else table
         output = min(OUTPUT, len(heights)) if output is None else output
         name = f"{self.name}, widths, rib {rib}, {what}"
         case = widths_case(name, self.file, table, rib, heights, arena, scratch, output)

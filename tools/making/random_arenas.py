@@ -1,8 +1,10 @@
-"""Pseudo-random arenas for the reading call: made word by word, or left by the list call, and then words replaced."""
+"""Pseudo-random arenas for the reading call, from either end: made word by word, or left by the list call, and then
+words replaced."""
 
 from making import random_faces
-from making.case import file_case, read_case, words_case
+from making.case import file_case, low_case, read_case, words_case
 from models import face_model, list_model, read_model
+from models.read_model import ADJUST, BACK, FORWARD, LEVEL, M, P, RECORD, place_of
 
 WORDS = list_model.WORDS
 UNTOUCHED = 2_863_311_530
@@ -29,12 +31,33 @@ def some_word(rng, arena, old):
     )
 
 
+def some_back(rng, records, old):
+    """A back word to put into a record: a record on the list, any record, or the old word but for a bit."""
+    listed = rng.choice([0] + records)
+    return rng.choice([listed, listed, listed, 0, rng.randint(0, 513), BIG, old ^ (1 << rng.randrange(32))])
+
+
+def put_back(rng, arena, records):
+    """Changes the back word of a record, mostly of one on the list or of the head. Returns the word by its place."""
+    record = rng.choice([0, *records[:1], *records[-1:], *records]) if rng.random() < 0.9 else rng.randint(0, 513)
+    place = place_of(record, BACK)
+    arena.words[place] = some_back(rng, records, arena.back(record))
+    return {place: arena.words[place]}
+
+
+# The words of a record of which one is drawn to be changed. Any may be, and some are more often.
+DRAWN = [LEVEL, M, P, FORWARD + 1, FORWARD + 1, FORWARD + 2, FORWARD + 3, FORWARD + 8]
+DRAWN += [ADJUST + 1, ADJUST + 2, ADJUST + 3, ADJUST + 8, BACK]
+
+
 def scramble(rng, arena, records, count):
-    """Changes so many words, mostly of records on the list. Returns the words by their places."""
+    """Changes so many words, mostly of records on the list, or one back word. Returns the words by their places."""
+    if count > 0 and rng.random() < 0.25:
+        return put_back(rng, arena, records)
     words = {}
     for _ in range(count):
         record = rng.choice([0] + records) if rng.random() < 0.9 else rng.randint(0, 512)
-        place = 19 * record + rng.choice([0, 1, 2, 3, 3, 4, 5, 10, 11, 12, 13, 18, rng.randint(0, 18)])
+        place = place_of(record, rng.choice(DRAWN + [rng.randrange(RECORD)]))
         old = arena.words.get(place, arena.fill)
         words[place] = some_word(rng, arena, old)
         arena.words[place] = words[place]
@@ -63,18 +86,19 @@ def put_list(rng, arena, records, levels):
     small = rng.random() < 0.5
     adjust = {}
     for place, record in enumerate([0] + records):
-        arena.words[19 * record] = level_of[record]
+        arena.words[place_of(record, LEVEL)] = level_of[record]
         for i in range(1, level_of[record] + 1):
-            arena.words[19 * record + 2 + i] = next((r for r in records[place:] if level_of[r] >= i), 0)
+            arena.words[place_of(record, FORWARD + i)] = next((r for r in records[place:] if level_of[r] >= i), 0)
             if i > 1:
                 adjust[record, i] = rng.choice([0, 5, BIG, BIG - 4]) if small else rng.randint(0, BIG)
-                arena.words[19 * record + 10 + i] = adjust[record, i]
+                arena.words[place_of(record, ADJUST + i)] = adjust[record, i]
+    arena.words |= {place_of(record, BACK): back for record, back in read_model.backs_of(records).items()}
     m, p = rising(rng, count)[::-1], rising(rng, count)
     last = {i: 0 for i in range(1, 9)}
     for place, record in enumerate(records):
         added = sum(adjust[last[i], i] for i in range(level_of[record] + 1, 9))
-        arena.words[19 * record + 1] = m[place]
-        arena.words[19 * record + 2] = (p[place] - added) % (BIG + 1)
+        arena.words[place_of(record, M)] = m[place]
+        arena.words[place_of(record, P)] = (p[place] - added) % (BIG + 1)
         for i in range(1, level_of[record] + 1):
             last[i] = record
 
@@ -87,8 +111,8 @@ def arena_length(rng):
     return rng.choice([WORDS] * 20 + [WORDS + 16, WORDS - 1, 0])
 
 
-def make_read(rng, name):
-    """The reading call on an arena that is made word by word."""
+def made(rng, name, maker):
+    """The reading call, of the end whose case is made so, on an arena that is made word by word."""
     count = rng.choice([0, 1, 2, 3, 5, 8, 13, 30]) if rng.random() < 0.97 else rng.choice([64, 200, 511, 512])
     records = rng.sample(range(1, 513), count)
     if rng.random() < 0.5:
@@ -100,7 +124,15 @@ def make_read(rng, name):
     if rng.random() < 0.6:
         scramble(rng, arena, records, rng.choice([1, 1, 1, 2, 3]))
     place = some_place(rng, count)
-    return [file_case(name, b""), read_case(f"{name}, call", arena, place, arena.words)]
+    return [file_case(name, b""), maker(f"{name}, call", arena, place, arena.words)]
+
+
+def make_read(rng, name):
+    return made(rng, name, read_case)
+
+
+def make_low(rng, name):
+    return made(rng, name, low_case)
 
 
 # ---------------------------------------------------------------------------------------------------------------
@@ -124,7 +156,7 @@ class Left:
         self.file = file
         self.levels = levels
         self.rib = rib
-        self.length = 19 * (len(levels) + 1)
+        self.length = RECORD * (len(levels) + 1)
         self.walked = list_model.list_call(file, levels, rib).walked
         self.words = {}
 
@@ -153,9 +185,10 @@ def lefts(rng, count):
 
 
 def scrambled(rng, name, left):
-    """The reading call on an arena that the list call left, with words replaced."""
+    """The reading call, from either end, on an arena that the list call left, with words replaced."""
     arena = read_model.Arena(arena_length(rng), UNTOUCHED, left.words)
     records = [item.record for item in left.walked]
     words = scramble(rng, arena, records, rng.choice([0, 1, 1, 1, 2, 3]))
     place = some_place(rng, len(records))
-    return [file_case(name, left.file), read_case(f"{name}, call", arena, place, words, left.levels, left.rib)]
+    maker = rng.choice([read_case, low_case])
+    return [file_case(name, left.file), maker(f"{name}, call", arena, place, words, left.levels, left.rib)]

@@ -5,7 +5,7 @@ import random
 from making import random_faces, random_heights, random_words
 from making.case import FACE_BYTES, FACE_WORDS, OUTPUT, TEXT, TEXT_LEAST, again_case, file_case, fit_case, gauge_case
 from making.case import levels_case, list_case, saved_case, text_case, widths_case, word_bytes, worded_case
-from making.random_arenas import make_read, some_rib
+from making.random_arenas import make_low, make_read, some_rib
 from models import face_model, fit_model, list_model, words_model
 
 WORDS = list_model.WORDS
@@ -192,15 +192,17 @@ MAKERS = {
     "gauge": (make_gauge, 2),
     "text": (make_text, 2),
     "read": (make_read, 5),
+    "low": (make_low, 5),
     "save": (make_saved, 4),
     "words": (make_words, 2),
     "again": (make_again, 1),
     "widths": (make_widths, 5),
 }
 
-# The calls that are stored for the program `cases_heights`, and those for `cases`.
+# The calls that are stored for the program `cases_heights`, for `cases_low`, and for `cases`.
 OF_HEIGHTS = ["widths"]
-OF_CASES = [call for call in MAKERS if call not in OF_HEIGHTS]
+OF_LOW = ["read", "low"]
+OF_CASES = [call for call in MAKERS if call not in OF_HEIGHTS + OF_LOW]
 
 
 def made(rng, name, calls=MAKERS):

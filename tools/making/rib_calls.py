@@ -2,9 +2,9 @@
 
 from making import rib_files
 from making.calls import SHORT, WORDS, Levels, opening_word
-from making.case import Case, fit_case, given, lines, list_case, read_case
+from making.case import fit_case, list_case
 from making.rib_files import ANY, FACES, LARGEST, MOST
-from models import face_model, fit_model, list_model, read_model
+from models import face_model, fit_model, list_model
 
 TOO_LARGE = (MOST + 1, 4_294_967_295)
 
@@ -37,36 +37,23 @@ class RibCalls:
         self.levels = Levels(self.file, self.face.size_count())
         self.found = {}
 
-    def table(self, rib):
-        """A table of levels for a rib: one of four."""
-        return [self.levels.ones, self.levels.eights, self.levels.own, self.levels.scattered][rib % 4]
-
     def add(self, case, number=None):
         """Adds a case. A number that was worked out by hand is that of its answer."""
         assert number is None or case.wanted.split()[1] == str(number), case.name
         self.found.setdefault(case.name, case)
 
     def list(self, rib, table=None, what="", number=None, arena=WORDS, output=None):
-        table = self.table(rib) if table is None else table
+        table = self.levels.of_rib(rib) if table is None else table
         output = list_model.output_words(self.face) + 4 if output is None else output
         name = f"{self.name}, list, rib {rib}{what}"
         self.add(list_case(name, self.file, table, rib, arena, WORDS, output), number)
 
     def fit(self, rib, opening=ANY, table=None, what=None, number=None, arena=WORDS, output=None):
-        table = self.table(rib) if table is None else table
+        table = self.levels.of_rib(rib) if table is None else table
         output = fit_model.output_words(self.face) + 4 if output is None else output
         what = f" in {opening_word(opening)}" if what is None else what
         name = f"{self.name}, fit, rib {rib}{what}"
         self.add(fit_case(name, self.file, table, rib, *opening, arena, WORDS, output), number)
-
-    def read(self, rib, place, length=WORDS):
-        """The reading call after a list call that is taken."""
-        levels = self.levels.scattered
-        walked = list_model.list_call(self.file, levels, rib).walked
-        number, m, p = list_model.read_call(walked, place) if length >= WORDS else (17, 0, 0)
-        text = given("r", levels, 0, place, length, 0, 0, rib)
-        what = "" if length == WORDS else f" of {length} words"
-        self.add(Case(f"{self.name}, read, rib {rib}, place {place}{what}", text, lines(f"read {number} {m} {p}")))
 
 
 # ---------------------------------------------------------------------------------------------------------------
@@ -107,15 +94,6 @@ def opening_calls(calls):
         calls.fit(MOST, opening, number=number)
 
 
-def read_calls(calls):
-    """The reading call on arenas that the list call leaves."""
-    for rib in (1, 5, MOST):
-        count = len(list_model.outer_sizes(calls.file, rib))
-        for place in sorted({0, 1, 2, count // 2, count, count + 1}):
-            calls.read(rib, place)
-    calls.read(5, 1, SHORT)
-
-
 # ---------------------------------------------------------------------------------------------------------------
 # Ribs that are refused, and what else may be
 
@@ -137,32 +115,12 @@ def refused_calls(calls):
         calls.fit(rib, (0, 0), ones, " and 16 to 18", 22, SHORT, short_fit)
 
 
-def arena_calls(calls):
-    """Reading calls whose answers were worked out by hand: on document 01's example under a rib of 5, with fixed words of the
-    arena replaced; and under a rib that the list call refuses, which leaves an arena of zeros but for its first word."""
-    ones = calls.levels.ones
-    # Records 1, 3 and 2 hold 60 75, 50 95 and 40 115, and m is a record's second word.
-    listed = {0: 8, 20: 60, 58: 50, 39: 40}
-    answers = [({20: 61}, 1, (0, 61, 75)), ({20: 50}, 1, (20, 0, 0)), ({39: 49}, 3, (0, 49, 115)), (listed, 2, (0, 50, 95))]
-    for words, place, answer in answers:
-        changed = " ".join(f"{at} is {word}" for at, word in words.items())
-        text = read_case("", read_model.Arena(WORDS, 0), place, words, ones, 5).given
-        name = f"{calls.name}, read, rib 5, place {place}, {changed}"
-        calls.add(Case(name, text, lines("read {} {} {}".format(*answer))))
-    for rib in TOO_LARGE:
-        empty = read_model.Arena(WORDS, 0, {0: 8})
-        calls.add(read_case(f"{calls.name}, read, rib {rib}, an empty list", empty, 1, {0: 8}, ones, rib), 21)
-        calls.add(read_case(f"{calls.name}, read, rib {rib}, no list", read_model.Arena(WORDS), 1, {}, ones, rib), 20)
-
-
 GROUPS = [
     (EVERY, every_rib_calls),
     ([stored.name for stored in rib_files.RIBBED], by_hand_calls),
     (TURNED, turned_calls),
     (["example", "lone-1-1", "mixed-7"], opening_calls),
     (["example", "printed-beside-then-stacked"], refused_calls),
-    (["example-stacked", "rib-ties", "mixed-20", "printed-alternating-64"], read_calls),
-    (["example"], arena_calls),
 ]
 
 

@@ -193,6 +193,12 @@ def read_call(walked, place):
     return 21, 0, 0
 
 
+def read_low_call(walked, place):
+    """The same from the low end."""
+    # "the k-th from the low end is the item that a full reading from the top puts there"
+    return read_call(walked[::-1], place)
+
+
 # ---------------------------------------------------------------------------------------------------------------
 # The list call
 

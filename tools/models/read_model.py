@@ -1,8 +1,9 @@
-"""A model of the reading call on an arena of any contents, for making tests: document 01's "Lazy lists" and checks 17,
-20 and 21.
+"""A model of the reading call, from either end, on an arena of any contents, for making tests: document 01's "Lazy
+lists" and checks 17, 20 and 21, and of document 02 paper 6's back words.
 
-It is written from the text of document 01, "Milled instrument faces", and shares nothing with the Rattle code: each
-forward and each true p is worked out from the whole walk. Words between quotation marks are the document's.
+It is written from the text of document 01, "Milled instrument faces", and of paper 6, "Reading a list from its low
+end", and shares nothing with the Rattle code: each forward, each back word and each true p is worked out from the whole
+walk. Words between quotation marks are the documents'.
 """
 
 import dataclasses
@@ -10,6 +11,19 @@ import dataclasses
 # "is the arena 16,384 words or more?"
 WORDS = 16384
 MODULUS = 4_294_967_296
+
+# "An arena record grows to 20 words."
+RECORD = 20
+
+# "Word 0 is the level, 1 is m, 2 is p, 3 to 10 are forward 1 to 8, 11 to 18 are adjust 1 to 8."; "Word 19 is the record
+# before it on the list". Forward i is word FORWARD + i, and adjust i is word ADJUST + i.
+LEVEL, M, P, FORWARD, ADJUST, BACK = 0, 1, 2, 2, 10, 19
+
+
+def place_of(record, word):
+    """The place in an arena of a record's word."""
+    # "Record r starts at word 20r."
+    return RECORD * record + word
 
 
 class Arena:
@@ -20,25 +34,26 @@ class Arena:
         self.fill = fill
         self.words = dict(words or {})
 
-    def word(self, record, place):
-        # "Record r is the 19 arena words from 19r."
-        return self.words.get(19 * record + place, self.fill)
+    def word(self, record, word):
+        return self.words.get(place_of(record, word), self.fill)
 
-    # "Word 0 is the level, 1 is m, 2 is p, 3 to 10 are forward 1 to 8, 11 to 18 are adjust 1 to 8."
     def level(self, record):
-        return self.word(record, 0)
+        return self.word(record, LEVEL)
 
     def m(self, record):
-        return self.word(record, 1)
+        return self.word(record, M)
 
     def p(self, record):
-        return self.word(record, 2)
+        return self.word(record, P)
 
     def forward(self, record, i):
-        return self.word(record, 2 + i)
+        return self.word(record, FORWARD + i)
 
     def adjust(self, record, i):
-        return self.word(record, 10 + i)
+        return self.word(record, ADJUST + i)
+
+    def back(self, record):
+        return self.word(record, BACK)
 
 
 @dataclasses.dataclass
@@ -84,6 +99,13 @@ def true_p(arena, records, place):
     return total % MODULUS
 
 
+def backs_of(records):
+    """The back word that each record on a list has, and the head, whose number is 0."""
+    # "Word 19 is the record before it on the list; in the first item it is 0, and in the head it is the last item, or 0
+    # for an empty list."
+    return dict(zip([*records, 0], [0, *records]))
+
+
 def lazy_list(arena):
     """The items of the lazy list that the arena holds, or None where it holds none."""
     # "An arena holds a lazy list if record 0 has level 8"
@@ -98,6 +120,9 @@ def lazy_list(arena):
         for i in range(1, arena.level(record) + 1):
             if arena.forward(record, i) != next_of_level(arena, records, place, i):
                 return None
+    # "A lazy list in check 20 now has right back words as well."
+    if any(arena.back(record) != back for record, back in backs_of(records).items()):
+        return None
     items = [
         Item(record, arena.level(record), arena.m(record), true_p(arena, records, place))
         for place, record in enumerate(records)
@@ -108,14 +133,34 @@ def lazy_list(arena):
     return None
 
 
-def read_call(arena, place):
-    """The reading call: number, m, p."""
+def asked(arena, place):
+    """The number of a reading call, and the items of the arena's list where that is 0."""
     # "is the arena 16,384 words or more? 17. Does it hold a lazy list? 20. Is the place from 1 to its length? 21."
     if arena.length < WORDS:
-        return 17, 0, 0
+        return 17, []
     items = lazy_list(arena)
     if items is None:
-        return 20, 0, 0
+        return 20, []
     if not 1 <= place <= len(items):
-        return 21, 0, 0
+        return 21, []
+    return 0, items
+
+
+def read_call(arena, place):
+    """The reading call from the top: number, m, p."""
+    number, items = asked(arena, place)
+    if number != 0:
+        return number, 0, 0
     return 0, items[place - 1].m, items[place - 1].p
+
+
+def read_low_call(arena, place):
+    """The reading call from the low end: number, m, p."""
+    number, items = asked(arena, place)
+    if number != 0:
+        return number, 0, 0
+    # "starts with the face of least m"; "the k-th from the low end is the item that a full reading from the top puts
+    # there"
+    item = sorted(items, key=lambda item: item.m)[place - 1]
+    assert item == items[-place]
+    return 0, item.m, item.p

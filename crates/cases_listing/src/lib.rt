@@ -51,14 +51,15 @@ fn leave_list(file: &[u8], levels: &[u8], rib: u32, arena: &mut [u32]) {
     shapes::list(file, levels, rib, arena, &mut scratch, &mut output);
 }
 
-// The reading call on an arena that the list call leaves and whose words are then replaced.
-pub fn call_read(text: &[u8], file: &[u8], levels: &[u8], numbers: Numbers)
+// The reading call, from the low end or from the top, on an arena that the list call leaves and whose words are then
+// replaced.
+pub fn call_read(low: bool, text: &[u8], file: &[u8], levels: &[u8], numbers: Numbers)
     requires { ⌜ numbers .end ≤ length (now text) ⌝ }
 {
     let mut arena = words_room(numbers.height);
     leave_list(file, levels, numbers.rib, &mut arena);
     replace_words(text, numbers.end, &mut arena);
-    show_reading(&arena, at_most(numbers.arena, WORDS), numbers.width);
+    show_reading(&arena, at_most(numbers.arena, WORDS), numbers.width, low);
 }
 
 // The words of an arena that the list call leaves.

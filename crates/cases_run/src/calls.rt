@@ -52,8 +52,8 @@ fn call_arena(letter: u8, text: &[u8], file: &[u8], levels: &[u8], numbers: Numb
 {
     if letter == b'l' || letter == b'f' || letter == b'c' {
         lend(letter, text, file, levels, numbers);
-    } else if letter == b'r' {
-        call_read(text, file, levels, numbers);
+    } else if letter == b'r' || letter == b'b' {
+        call_read(letter == b'b', text, file, levels, numbers);
     } else {
         call_words(file, levels, numbers.rib, at_most(numbers.arena, WORDS));
     }

@@ -26,6 +26,7 @@
 //         then the list call is made on the file, LEVELS and RIB, which leaves the arena where it refuses them; then
 //         words are replaced. After RIB come numbers with a sign before each: @I goes to word I, and a blank and a number
 //         puts the number there and goes on to the next word.
+//     b   the same from the low end, of place WIDTH from there
 //     d   the list call, and then the first ARENA words of its arena
 //     c   the catalogue call, lent HEIGHT heights, at most 16,400: each is WIDTH, then some are replaced as in `r`
 //     s   the writing call, in a buffer of OUTPUT bytes, at most 13,700, on the words that the file is: four bytes a word,
@@ -37,7 +38,9 @@
 // fields; where they are taken, the output's words and whether those after are as they were; the record, level, m and
 // true p of each item of the arena's list, m and p as the reading call gives them, and the numbers with which that call
 // refuses place 0 and the place after the last; and of a refusal whether each buffer is as it was. Of a long list or
-// output the first items or words are printed, and a sum of the others.
+// output the first items or words are printed, and a sum of the others. The words `but back` come after a list where the
+// back word of a record on it, or of the head, is not right, and `but low` where the reading call gives something else from
+// the low end than from the top.
 //
 // The byte buffer of `s` has 170 in each byte before the call. `s` prints the number and the length; where the call is
 // taken, the file in hexadecimal and whether the bytes after it are as they were, and then the file read to words again:

@@ -1,30 +1,20 @@
 // The list in an arena, and what the reading call gives of it.
-ghost use Prim.Native.Nat.{_≤_};
+use crate::ends::put_other_backs;
+use crate::ends::put_other_low;
 use crate::print::end_line;
 use crate::print::put;
 use crate::print::put_next;
 use crate::print::put_sum;
 use crate::print::put_word;
-use crate::rooms::length_of;
+use crate::record::FORWARD;
+use crate::record::LEVEL;
+use crate::record::M;
+use crate::record::PLACES;
+use crate::record::word;
 use crate::sum::with_word;
 
 // How many items of a list are shown. Of those after them a sum is.
 const ITEMS: u32 = 16;
-
-// One more than the most items of a list.
-const PLACES: u32 = 513;
-
-// The word at a place of an arena, and 0 past its end.
-fn word_at(arena: &[u32], at: usize) -> u32 {
-    if at < arena.len() { arena[at] } else { 0 }
-}
-
-// Word j of record r.
-fn word(arena: &[u32], r: u32, j: usize) -> u32
-    requires { ⌜ j ≤ 18 ⌝ }
-{
-    word_at(arena, 19 * length_of(r) + j)
-}
 
 // The m that a record has, where it is not the one that was read.
 fn put_other_m(m: u32, read: u32) {
@@ -36,18 +26,18 @@ fn put_other_m(m: u32, read: u32) {
 // An item of a list: its record with its level, and what the reading call gives of it.
 fn put_item(arena: &[u32], record: u32, reading: maxplus::Reading) {
     put_next(record);
-    put_next(word(arena, record, 0));
+    put_next(word(arena, record, LEVEL));
     put_next(reading.m);
     put_next(reading.p);
-    put_other_m(word(arena, record, 1), reading.m);
+    put_other_m(word(arena, record, M), reading.m);
     put(b",");
 }
 
 // A sum with an item more.
 fn with_item(sum: u64, arena: &[u32], record: u32, reading: maxplus::Reading) -> u64 {
-    let of_record = with_word(with_word(sum, record), word(arena, record, 0));
+    let of_record = with_word(with_word(sum, record), word(arena, record, LEVEL));
     let of_reading = with_word(with_word(of_record, reading.m), reading.p);
-    with_word(of_reading, word(arena, record, 1))
+    with_word(of_reading, word(arena, record, M))
 }
 
 // Shows an item where it is one of the first. Else its words go to the sum, which is answered.
@@ -65,44 +55,56 @@ fn put_ends(arena: &[u32], sum: u64, place: u32, last: u32) {
     if place > ITEMS + 1 {
         put_sum(sum);
     }
-    put_word(b" ends ", maxplus::read(arena, 0).number);
+    let before = maxplus::read(arena, 0);
+    put_other_low(arena, place, before);
+    put_word(b" ends ", before.number);
     put_next(last);
     end_line();
 }
 
-// The list in an arena, in a line.
+// The list in an arena, in a line, with what is not right of it from its low end.
 pub fn show_list(arena: &[u32]) {
     put(b"list");
-    let mut record = word(arena, 0, 3);
+    let end = put_other_backs(arena);
+    let mut record = word(arena, 0, FORWARD);
     let mut place = 1;
     let mut sum = 0;
     while place <= PLACES {
         let reading = maxplus::read(arena, place);
+        put_other_low(arena, std::num::wrapping_sub_u32(end, place), reading);
         if reading.number != 0 {
             put_ends(arena, sum, place, reading.number);
             return;
         }
         sum = show_item(sum, place, arena, record, reading);
-        record = word(arena, record, 3);
+        record = word(arena, record, FORWARD);
         place += 1;
     }
     put(b" no end\n");
 }
 
-// What the reading call gives at a place.
-fn put_reading(arena: &[u32], place: u32) {
-    let reading = maxplus::read(arena, place);
-    put_word(b"read ", reading.number);
+// What a reading call gives, after its name.
+fn put_reading(name: &[u8], reading: maxplus::Reading) {
+    put_word(name, reading.number);
     put_next(reading.m);
     put_next(reading.p);
     end_line();
 }
 
+// What the reading call gives at a place from the low end or from the top.
+fn read_from(arena: &[u32], place: u32, low: bool) {
+    if low {
+        put_reading(b"low ", maxplus::read_low(arena, place));
+    } else {
+        put_reading(b"read ", maxplus::read(arena, place));
+    }
+}
+
 // The same of an arena of so many words.
-pub fn show_reading(arena: &[u32], words: usize, place: u32) {
+pub fn show_reading(arena: &[u32], words: usize, place: u32, low: bool) {
     if words > arena.len() {
         put(b"arena too short\n");
         return;
     }
-    put_reading(&arena[..words], place);
+    read_from(&arena[..words], place, low);
 }

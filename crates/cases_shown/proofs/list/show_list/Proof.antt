@@ -6,16 +6,19 @@ use Rattle.cases_shown.proofs.list.show_list.Statement.{statement}
 use Rattle.cases_shown.proofs.list.show_list.Tie as tie
 
 abbrev Inv-loop : tie.InvT-loop
-Inv-loop arena record₀ place₀ sum₀ t7 «record» place sum = Unit {0}
+Inv-loop arena end record₀ place₀ sum₀ t8 «record» place sum = Unit {0}
 
 abbrev μ-loop : tie.MeasureT-loop
-μ-loop arena record₀ place₀ sum₀ t7 «record» place sum = 514 - place
+μ-loop arena end record₀ place₀ sum₀ t8 «record» place sum = 514 - place
 
 slice-aggregate-put : tie.Need-slice-aggregate-put Inv-loop μ-loop
 slice-aggregate-put c = search needs
 
 put-requires : tie.Need-put-requires Inv-loop μ-loop
 put-requires c κs = search needs
+
+put-other-backs-requires : tie.Need-put-other-backs-requires Inv-loop μ-loop
+put-other-backs-requires c κs = search needs
 
 word-requires : tie.Need-word-requires Inv-loop μ-loop
 word-requires c κs = search needs
@@ -25,6 +28,12 @@ loop-holds c = search needs
 
 read-requires : tie.Need-read-requires Inv-loop μ-loop
 read-requires c κs = search needs
+
+wrapping-sub-u32-requires : tie.Need-wrapping-sub-u32-requires Inv-loop μ-loop
+wrapping-sub-u32-requires c κs = search needs
+
+put-other-low-requires : tie.Need-put-other-low-requires Inv-loop μ-loop
+put-other-low-requires c κs = search needs
 
 put-ends-requires : tie.Need-put-ends-requires Inv-loop μ-loop
 put-ends-requires c κs = search needs
@@ -64,9 +73,12 @@ show-list-spec =
     μ-loop
     slice-aggregate-put
     put-requires
+    put-other-backs-requires
     word-requires
     loop-holds
     read-requires
+    wrapping-sub-u32-requires
+    put-other-low-requires
     put-ends-requires
     returns
     show-item-requires

@@ -16,11 +16,11 @@ put-requires c κs = search needs
 returns : tie.Need-returns
 returns c = search needs
 
-slice-aggregate-put-reading : tie.Need-slice-aggregate-put-reading
-slice-aggregate-put-reading c = sym (length-take-le _ _ (omega arith))
+slice-aggregate-read-from : tie.Need-slice-aggregate-read-from
+slice-aggregate-read-from c = sym (length-take-le _ _ (omega arith))
 
-put-reading-requires : tie.Need-put-reading-requires
-put-reading-requires c κs = search needs
+read-from-requires : tie.Need-read-from-requires
+read-from-requires c κs = search needs
 
 returns-2 : tie.Need-returns-2
 returns-2 c = search needs
@@ -32,6 +32,6 @@ show-reading-spec =
     slice-aggregate-put
     put-requires
     returns
-    slice-aggregate-put-reading
-    put-reading-requires
+    slice-aggregate-read-from
+    read-from-requires
     returns-2)
