@@ -1,6 +1,6 @@
-// The list call and the fit call on one file, each once by each program that is measured, and the reading call twice by
-// each: on the list that Rattle left in the arena, and on the one that C left. The words of the file are read, the file
-// of these words is written, and the face's own levels are filled in, each once by Rattle and once by C.
+// The list call and the fit call on one file, each once by each program that is measured, and the reading call from either
+// end twice by each: on the list that Rattle left in the arena, and on the one that C left. The words of the file are
+// read, the file of these words is written, and the face's own levels are filled in, each once by Rattle and once by C.
 //
 //     calls FILE LEVELS RIB
 //
@@ -49,10 +49,12 @@ static __attribute__((noinline)) size_t touched(void) {
 
 // ---- the calls
 
-// Reads p of the last item of the list that the arena holds.
+// Reads p of the last item of the list that the arena holds, from either end.
 static void read_last(size_t items, uint32_t p, const char *what) {
     hold(rattle_read(arena_room, WORDS, (uint32_t)items) == p, what);
+    hold(rattle_read_low(arena_room, WORDS, 1) == p, what);
     hold(arena_read(arena, (uint32_t)items) == p, "what is read in C");
+    hold(arena_read_low(arena, 1) == p, "what is read from the low end in C");
 }
 
 // Answers with the stack that Rattle's call touched.

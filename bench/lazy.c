@@ -17,7 +17,7 @@ INLINE uint32_t *record(uint32_t *arena, size_t r) { return arena + STRIDE * r; 
 
 static void clear_head(uint32_t *head) {
     head[LEVEL] = LINKS;
-    memset(head + FORWARD, 0, 2 * LINKS * sizeof *head);
+    memset(head + FORWARD, 0, (2 * LINKS + 1) * sizeof *head);
 }
 
 // ---- lists made anew, from the last record to the first
@@ -31,25 +31,29 @@ INLINE void hook(uint32_t *head, uint32_t *x, uint32_t r, size_t level) {
     }
 }
 
-INLINE void put_first(uint32_t *head, uint32_t *x, uint32_t r, uint32_t level, uint32_t m, uint32_t p, uint32_t next) {
+// The record goes before `after`, which is the head where there is none: the last item is the head's back word.
+INLINE void put_first(uint32_t *head, uint32_t *x, uint32_t r, uint32_t level, uint32_t m, uint32_t p, uint32_t next,
+                      uint32_t *after) {
     x[LEVEL] = level;
     x[M] = m;
     x[P] = p;
     x[FORWARD] = next;
+    after[BACK] = r;
     hook(head, x, r, level);
 }
 
 // The sizes as they stand.
 static void load_all(uint32_t *arena, size_t head, size_t first, const uint8_t *sizes, const uint8_t *levels,
                      size_t count, bool across) {
-    uint32_t *h = record(arena, head), next = 0;
+    uint32_t *h = record(arena, head), *after = h, next = 0;
     clear_head(h);
     if (across) {
         uint32_t r = (uint32_t)first, *x = record(arena, r);
         for (size_t i = 0; i < count; i++, x += STRIDE) {
             uint32_t size = size_word(sizes + 4 * i);
-            put_first(h, x, r, levels[i], size & 0xFFFF, size >> 16, next);
+            put_first(h, x, r, levels[i], size & 0xFFFF, size >> 16, next, after);
             next = r++;
+            after = x;
         }
     } else {
         uint32_t r = (uint32_t)(first + count), *x = record(arena, r);
@@ -57,25 +61,30 @@ static void load_all(uint32_t *arena, size_t head, size_t first, const uint8_t *
             uint32_t size = size_word(sizes + 4 * i);
             x -= STRIDE;
             r--;
-            put_first(h, x, r, levels[i], size >> 16, size & 0xFFFF, next);
+            put_first(h, x, r, levels[i], size >> 16, size & 0xFFFF, next, after);
             next = r;
+            after = x;
         }
     }
     h[FORWARD] = next;
+    after[BACK] = 0;
 }
 
 static void load_places(uint32_t *arena, size_t head, size_t first, const uint8_t *sizes, const uint8_t *levels,
                         const uint8_t *places, size_t count, bool across) {
-    uint32_t *h = record(arena, head), next = 0;
+    uint32_t *h = record(arena, head), *after = h, next = 0;
     clear_head(h);
     for (size_t i = 0; i < count; i++) {
         size_t k = places[across ? i : count - 1 - i];
         uint32_t size = size_word(sizes + 4 * k), r = (uint32_t)(first + k);
         uint32_t m = across ? size & 0xFFFF : size >> 16, p = across ? size >> 16 : size & 0xFFFF;
-        put_first(h, record(arena, r), r, levels[k], m, p, next);
+        uint32_t *x = record(arena, r);
+        put_first(h, x, r, levels[k], m, p, next, after);
         next = r;
+        after = x;
     }
     h[FORWARD] = next;
+    after[BACK] = 0;
 }
 
 void lazy_load(uint32_t *arena, size_t head, size_t first, const uint8_t *sizes, const uint8_t *levels,
@@ -112,17 +121,19 @@ INLINE void rehook(uint32_t *head, uint32_t *x, uint32_t r, size_t level, uint32
 
 void lazy_turn(uint32_t *arena, size_t head) {
     uint32_t *h = record(arena, head), sums[LINKS + 1] = {0};
-    uint32_t r = h[FORWARD], before = 0;
+    uint32_t first = h[FORWARD], r = first, before = 0;
     clear_head(h);
     while (r != 0) {
         uint32_t *x = record(arena, r), level = x[LEVEL], next = x[FORWARD];
         swap(x, sums[level]);
         x[FORWARD] = before;
+        x[BACK] = next;
         before = r;
         r = next;
         if (level > 1) rehook(h, x, before, level, sums);
     }
     h[FORWARD] = before;
+    h[BACK] = first;
 }
 
 size_t lazy_items(const uint32_t *arena, size_t head, uint32_t *pairs) {
@@ -171,35 +182,46 @@ INLINE front front_at(uint32_t *arena, uint32_t r) {
     return (front){at, r, at[M]};
 }
 
-// Moves the records in front whose m is larger, one or more, behind a last record, and raises their p. Answers with the
-// last of them.
-INLINE uint32_t *move_flat(uint32_t *arena, front *a, uint32_t *last, uint32_t m, uint32_t p) {
-    last[FORWARD] = a->first;
+// The list that is made: its last record, and that record's number, which is 0 where there is none.
+typedef struct {
+    uint32_t *last, number;
+} made;
+
+// The first record of what is left comes next on the list that is made.
+INLINE void follow(const front *a, const made *c) {
+    c->last[FORWARD] = a->first;
+    a->at[BACK] = c->number;
+}
+
+// Moves the records in front whose m is larger, one or more, behind the list that is made, and raises their p.
+INLINE void move_flat(uint32_t *arena, front *a, made *c, uint32_t m, uint32_t p) {
+    follow(a, c);
     do {
-        last = a->at;
-        last[P] += p;
-        *a = front_at(arena, last[FORWARD]);
+        *c = (made){a->at, a->first};
+        c->last[P] += p;
+        *a = front_at(arena, c->last[FORWARD]);
     } while (a->m > m);
-    return last;
 }
 
 // Stored p are true p here.
-static void merge_flat(uint32_t *arena, front a, front b, uint32_t rib, uint32_t *last) {
-    clear_head(last);
+static void merge_flat(uint32_t *arena, front a, front b, uint32_t rib, uint32_t *head) {
+    made c = {head, 0};
+    clear_head(head);
     while (a.m != 0 && b.m != 0) {
         if (a.m > b.m) {
-            last = move_flat(arena, &a, last, b.m, b.at[P] + rib);
+            move_flat(arena, &a, &c, b.m, b.at[P] + rib);
         } else if (b.m > a.m) {
-            last = move_flat(arena, &b, last, a.m, a.at[P] + rib);
+            move_flat(arena, &b, &c, a.m, a.at[P] + rib);
         } else {
-            last[FORWARD] = a.first;
-            last = a.at;
-            last[P] += b.at[P] + rib;
-            a = front_at(arena, last[FORWARD]);
+            follow(&a, &c);
+            c = (made){a.at, a.first};
+            a.at[P] += b.at[P] + rib;
+            a = front_at(arena, a.at[FORWARD]);
             b = front_at(arena, b.at[FORWARD]);
         }
     }
-    last[FORWARD] = 0;
+    c.last[FORWARD] = 0;
+    head[BACK] = c.number;
 }
 
 // ---- merging lists that have links above the lowest
@@ -304,18 +326,17 @@ static uint32_t *move_linked(uint32_t *arena, uint32_t *at, links *x, uint32_t *
     return at;
 }
 
-// Moves the records in front whose m is at least the key, one or more, behind a last record, and raises each true p by
-// q. Answers with the last of them.
-INLINE uint32_t *move_run(uint32_t *arena, front *a, links *x, uint32_t *last, uint32_t **ends, uint32_t key,
-                          uint32_t q) {
-    last[FORWARD] = a->first;
+// Moves the records in front whose m is at least the key, one or more, behind the list that is made, and raises each true
+// p by q.
+INLINE void move_run(uint32_t *arena, front *a, links *x, made *c, uint32_t **ends, uint32_t key, uint32_t q) {
+    follow(a, c);
     if (x->m < key) {
-        last = raise_flat(arena, a->at, key, q + x->sums[1]);
+        c->last = raise_flat(arena, a->at, key, q + x->sums[1]);
     } else {
-        last = move_linked(arena, a->at, x, ends, key, q);
+        c->last = move_linked(arena, a->at, x, ends, key, q);
     }
-    *a = front_at(arena, last[FORWARD]);
-    return last;
+    c->number = (uint32_t)((size_t)(c->last - arena) / STRIDE);
+    *a = front_at(arena, c->last[FORWARD]);
 }
 
 // The first record leaves a list.
@@ -334,24 +355,26 @@ INLINE void drop_first(uint32_t *arena, front *a, links *x) {
 // The older list is entered as raised by the rib: then what a run is raised by has the rib in it. The function stands
 // apart from the one that calls it, so that a merge of lists without link 1 has no room for links to make.
 static __attribute__((noinline)) void merge_linked(uint32_t *arena, size_t older, size_t newer, uint32_t rib,
-                                                   uint32_t *last) {
+                                                   uint32_t *head) {
     links x, y;
     uint32_t *ends[LINKS];
+    made c = {head, 0};
     enter(arena, older, rib, &x);
     enter(arena, newer, 0, &y);
     front a = front_at(arena, x.forward[0]), b = front_at(arena, y.forward[0]);
-    clear_head(last);
-    for (size_t k = 1; k < LINKS; k++) ends[k] = last + FORWARD + k;
+    clear_head(head);
+    for (size_t k = 1; k < LINKS; k++) ends[k] = head + FORWARD + k;
     while (a.m != 0 && b.m != 0) {
         if (b.m <= a.m) {
-            last = move_run(arena, &a, &x, last, ends, b.m, first_p(&b, &y));
-            if (last[M] == b.m) drop_first(arena, &b, &y);
+            move_run(arena, &a, &x, &c, ends, b.m, first_p(&b, &y));
+            if (c.last[M] == b.m) drop_first(arena, &b, &y);
         } else {
-            last = move_run(arena, &b, &y, last, ends, a.m + 1, first_p(&a, &x));
+            move_run(arena, &b, &y, &c, ends, a.m + 1, first_p(&a, &x));
         }
     }
-    last[FORWARD] = 0;
+    c.last[FORWARD] = 0;
     for (size_t k = 1; k < LINKS; k++) *ends[k] = 0;
+    head[BACK] = c.number;
 }
 
 void lazy_merge(uint32_t *arena, size_t older, size_t newer, uint32_t rib, size_t result) {

@@ -1,5 +1,5 @@
-// Lazy lists in C, written for speed, to be measured beside the Rattle code: the records and links of document 01 in
-// the same arena, so that a list made here is one that the reading call takes.
+// Lazy lists in C, written for speed, to be measured beside the Rattle code: the records and links of document 01, with the
+// back words of paper 6, in the same arena, so that a list made here is one that the reading call takes.
 #ifndef LAZY_H
 #define LAZY_H
 
@@ -8,7 +8,7 @@
 #include <stdint.h>
 
 // The words of a record.
-enum { LEVEL = 0, M = 1, P = 2, FORWARD = 3, ADJUST = 11, STRIDE = 19 };
+enum { LEVEL = 0, M = 1, P = 2, FORWARD = 3, ADJUST = 11, BACK = 19, STRIDE = 20 };
 
 enum { LINKS = 8, WORDS = 16384 };
 

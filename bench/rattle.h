@@ -32,8 +32,9 @@ uint32_t rattle_fit(const uint8_t *file, size_t file_bytes, const uint8_t *level
 uint8_t rattle_build(const uint8_t *file, size_t file_bytes, const uint8_t *levels, size_t level_bytes, uint32_t rib,
                      uint32_t *arena, size_t arena_words);
 
-// Answers with p of the item at a place, 0 where a check fails.
+// Answers with p of the item at a place from the top or from the low end, 0 where a check fails.
 uint32_t rattle_read(const uint32_t *arena, size_t arena_words, uint32_t place);
+uint32_t rattle_read_low(const uint32_t *arena, size_t arena_words, uint32_t place);
 
 // Answers with the length of the file, 0 where a check fails.
 uint32_t rattle_write_file(const uint32_t *words, size_t word_count, uint8_t *output, size_t output_bytes);

@@ -298,13 +298,16 @@ ribs_table() {
     done
 }
 
-# Each program makes the call twice.
+# Prints the cells of the reading call from one end. Each program makes the call twice.
+reading_cells() { # RATTLE-CALL C-CALL NAME
+    beside_c $(($(rattle "$1" "$3") / 2)) $(($(inside "$2" "$3-gcc") / 2)) $(($(inside "$2" "$3-clang") / 2))
+}
+
 reading_table() {
-    header levels Rattle "${c_names[@]}"
+    header levels 'from the top, Rattle' "${c_names[@]}" 'from the low end, Rattle' "${c_names[@]}"
     for table in $tables; do
         name=$read_face-$table
-        row $table "$(beside_c $(($(rattle rattle_read $name) / 2)) $(($(inside arena_read $name-gcc) / 2)) \
-            $(($(inside arena_read $name-clang) / 2)))"
+        row $table "$(reading_cells rattle_read arena_read $name)" "$(reading_cells rattle_read_low arena_read_low $name)"
     done
 }
 
