@@ -115,7 +115,9 @@ loop-less c =
     let at-loop = test .before .before in
     let after = at-loop .before in
     let first = at-first after in
-    onward-less _ _ _ _ _ _ (entry first .pre .0) (entry first .pre .1) (first .before .get .ensures) (first .wide .ensures) _ _ _ (at-raise after .raise .ensures) (after .before .get2 .ensures) (after .wide2 .ensures) _ _ _ _ (at-loop .loop .inv) (test .if1 .taken) _ _ _ _ (sum .wrapping-add-u32 .ensures) refl refl (c .wide3 .ensures)
+    onward-less _ _ _ _ _ _ (entry first .pre .0) (entry first .pre .1) (first .before .get .ensures) (first .wide .ensures)
+    _ _ _ (at-raise after .raise .ensures) (after .before .get2 .ensures) (after .wide2 .ensures)
+    _ _ _ _ (at-loop .loop .inv) (test .if1 .taken) _ _ _ _ (sum .wrapping-add-u32 .ensures) refl refl (c .wide3 .ensures)
 
 loop-again : tie.Need-loop-again Inv-loop μ-loop
 loop-again c =
@@ -124,7 +126,9 @@ loop-again c =
     let at-loop = test .before .before in
     let after = at-loop .before in
     let first = at-first after in
-    onward-more _ _ _ _ _ _ (entry first .pre .0) (entry first .pre .1) (first .before .get .ensures) (first .wide .ensures) _ _ _ (at-raise after .raise .ensures) (after .before .get2 .ensures) (after .wide2 .ensures) _ _ _ _ (at-loop .loop .inv) (test .if1 .taken) _ _ _ _ (sum .wrapping-add-u32 .ensures) refl refl (c .wide3 .ensures) _ (search needs)
+    onward-more _ _ _ _ _ _ (entry first .pre .0) (entry first .pre .1) (first .before .get .ensures) (first .wide .ensures)
+    _ _ _ (at-raise after .raise .ensures) (after .before .get2 .ensures) (after .wide2 .ensures)
+    _ _ _ _ (at-loop .loop .inv) (test .if1 .taken) _ _ _ _ (sum .wrapping-add-u32 .ensures) refl refl (c .wide3 .ensures) _ (search needs)
 
 same-length : tie.Need-same-length Inv-loop μ-loop
 same-length c = search needs
@@ -134,7 +138,9 @@ returns c =
     let at-loop = c .before .before in
     let after = at-loop .before in
     let first = at-first after in
-    onward-done _ _ _ _ _ _ (entry first .pre .0) (entry first .pre .1) (first .before .get .ensures) (first .wide .ensures) _ _ _ (at-raise after .raise .ensures) (after .before .get2 .ensures) (after .wide2 .ensures) _ _ _ _ (at-loop .loop .inv) (c .if1 .left)
+    onward-done _ _ _ _ _ _ (entry first .pre .0) (entry first .pre .1) (first .before .get .ensures) (first .wide .ensures)
+    _ _ _ (at-raise after .raise .ensures) (after .before .get2 .ensures) (after .wide2 .ensures)
+    _ _ _ _ (at-loop .loop .inv) (c .if1 .left)
 
 pub walk-spec : {M : Type 1} → statement M
 walk-spec =
