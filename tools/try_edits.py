@@ -23,6 +23,7 @@ FIRST = {
     "walking": "cases_heights",
     "catalogue": "cases_heights",
     "forwards": "cases_low",
+    "holding": "cases_low",
     "maxplus": "cases_low",
 }
 RIGHT = "ok: the native program at -O3 ended and wrote what is expected"

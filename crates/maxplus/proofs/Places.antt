@@ -18,9 +18,10 @@ use Rattle.slicing.specs.Recorded.{Recorded, items}
 use Rattle.arena.specs.Lazy.{lazyList}
 use Rattle.arena.proofs.Cases.{lt-or-ge}
 use Rattle.maxplus.specs.declared.Reading.{Reading}
-use Rattle.maxplus.specs.declared.read_list.Counted.{Counted}
 use Rattle.maxplus.specs.Read.{readItem, readLow, reading}
-use Rattle.maxplus.specs.inside.Pass.{refusedReading, readAt, arenaList, Rows, LaidOut}
+use Rattle.maxplus.specs.inside.Place.{refusedReading, readAt}
+use Rattle.holding.specs.declared.items.Counted.{Counted}
+use Rattle.holding.specs.inside.Pass.{arenaList, Rows, LaidOut}
 
 -- The items of a list from the last to the first.
 pub reversed-at : (l : List Item) (i : ℕ) (d : Item) → i < length l → getD (reverse l) i d ≡ getD l (length l - suc i) d
@@ -143,3 +144,12 @@ module _ (a ms ps : List ℕ) (place : ℕ) (c : Counted) (laid : LaidOut (arena
         counted ∙ low-at (found .0) ms ps (held-so .rows) place at few at-fits fits (wraps ∙ held-so .count-is)
         ∙ ap (λ (r : Answer (List Recorded)). reading (next r (fromLow place))) (sym (found .1))
         ∙ ap reading (sym (arena-low a place))
+
+-- Check 21, as the code asks it of an index.
+pub place-out : (count at m p : ℕ) (z : Reading) → count ≤ at → z ≡ refusedReading 21 → z ≡ readAt count at m p
+unfolding readAt
+place-out count at m p z h e = e ∙ rw (le-ltb at count h)
+
+pub place-in : (count at m p : ℕ) → at < count → record { number = 0; m = m; p = p } ≡ readAt count at m p
+unfolding readAt
+place-in count at m p h = rw (lt-ltb at count h)

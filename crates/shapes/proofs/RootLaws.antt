@@ -21,7 +21,7 @@ use Rattle.facefile.proofs.Taken.{face-taken}
 use Rattle.arena.specs.Lazy.{held}
 use Rattle.arena.proofs.Frames.{all-map}
 use Rattle.arena.proofs.ListLaws.{held-length}
-use Rattle.maxplus.proofs.Holds.{holds-lazy}
+use Rattle.holding.proofs.Holds.{holds-lazy}
 use Rattle.entries.specs.inside.Kinds.{kindOf}
 use Rattle.parts.specs.inside.Building.{Whole}
 use Rattle.parts.proofs.PartLaws.{part-length, part-level}

@@ -1,7 +1,7 @@
 -- `maxplus::read_list::item_or_place` meets its contract.
 -- For each way out a law of `ItemTests` takes the test of the place that leads to it.
 use borrow.Author.Needs.{needs}
-use Rattle.maxplus.proofs.ItemTests.{place-out, place-in}
+use Rattle.maxplus.proofs.Places.{place-out, place-in}
 use Rattle.maxplus.proofs.read_list.item_or_place.Statement.{statement}
 use Rattle.maxplus.proofs.read_list.item_or_place.Tie as tie
 

@@ -15,8 +15,8 @@ use Rattle.arena.specs.Lazy.{nextWith, lastWith, held, walk, linksRight, linked
 use Rattle.arena.specs.inside.Chain.{All, Chain, Linked}
 use Rattle.arena.specs.inside.Backs.{Backs, lastOf, Backed}
 use Rattle.arena.proofs.Walking.{next-none, next-first, next-second}
-use Rattle.maxplus.proofs.Following.{each, links-all, walk-back, walk-stops}
-use Rattle.maxplus.proofs.Answering.{under-first, rest-lazy}
+use Rattle.holding.proofs.Following.{each, links-all, walk-back, walk-stops}
+use Rattle.holding.proofs.Answering.{under-first, rest-lazy}
 
 chain-walk : (most : ℕ) (a rs : List ℕ) → Chain a rs → All (λ x. x ≤ 512) rs → length rs ≤ most → walk most a (nextWith a 0 rs) ≡ taken rs
 chain-walk most a [] c low few = walk-stops a most (nextWith a 0 []) (next-none a)

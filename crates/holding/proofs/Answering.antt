@@ -13,12 +13,12 @@ use Rattle.checks.specs.Limits.{bufferWords, mostSizes}
 use Rattle.checks.specs.Answer.{Answer, refused, taken, ask, next}
 use Rattle.checks.proofs.Answers.{ask-taken, next-taken, RefusedBy, ask-refused, next-refused}
 use Rattle.slicing.specs.Recorded.{Recorded, items}
-use Rattle.maxplus.specs.declared.read_list.Counted.{Counted}
+use Rattle.holding.specs.declared.items.Counted.{Counted}
 use Rattle.arena.specs.Arena.{level, forward}
 use Rattle.arena.specs.Lazy.{lastWith, held, walk, linksRight, linked, falling, backsRight, lazyList}
 use Rattle.arena.specs.inside.Backs.{lastOf}
-use Rattle.maxplus.specs.inside.Pass.{arenaList, Rows, LaidOut}
-use Rattle.maxplus.proofs.Following.{each, links-each, links-all, Under, Rest}
+use Rattle.holding.specs.inside.Pass.{arenaList, Rows, LaidOut}
+use Rattle.holding.proofs.Following.{each, links-each, links-all, Under, Rest}
 
 -- Every refusal of a list is by check 20.
 abbrev ByList : {A : Type 0} → Answer A → Type 0

@@ -1,9 +1,9 @@
--- `maxplus::read_list::items_of` meets its contract, on any arena.
+-- `holding::items::items_of` meets its contract, on any arena.
 -- A short arena and a head of another level are refused as the definition refuses them, and `lay_out` answers for all others.
 use borrow.Author.Needs.{needs}
-use Rattle.maxplus.proofs.Answering.{short-arena, long-arena, no-head}
-use Rattle.maxplus.proofs.read_list.items_of.Statement.{statement}
-use Rattle.maxplus.proofs.read_list.items_of.Tie as tie
+use Rattle.holding.proofs.Answering.{short-arena, long-arena, no-head}
+use Rattle.holding.proofs.items.items_of.Statement.{statement}
+use Rattle.holding.proofs.items.items_of.Tie as tie
 
 not-counted-requires : tie.Need-not-counted-requires
 not-counted-requires c κs = search needs

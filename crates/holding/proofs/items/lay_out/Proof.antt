@@ -1,15 +1,15 @@
--- `maxplus::read_list::lay_out` meets its contract.
+-- `holding::items::lay_out` meets its contract.
 -- The loop keeps `Walking`; the measure is the records that the walk may still meet.
 use mathlib.Core.Path.{sym, _∙_}
 use borrow.Author.Needs.{needs}
 use borrow.Author.Tests.{not-false}
 use Prim.Native.Nat.{_-_}
 use native.Mathlib.Omega.{arith}
-use Rattle.maxplus.specs.inside.Pass.{Stands, Follows}
+use Rattle.holding.specs.inside.Pass.{Stands, Follows}
 use Rattle.forwards.proofs.Decisions.{decided}
-use Rattle.maxplus.proofs.ReadingWalk.{Walking, head-enterable, walking-start, walk-barred, walk-summable, walk-unordered, walk-undue, walk-on, walk-unturned, walk-loose, walk-laid}
-use Rattle.maxplus.proofs.read_list.lay_out.Statement.{statement}
-use Rattle.maxplus.proofs.read_list.lay_out.Tie as tie
+use Rattle.holding.proofs.ReadingWalk.{Walking, head-enterable, walking-start, walk-barred, walk-summable, walk-unordered, walk-undue, walk-on, walk-unturned, walk-loose, walk-laid}
+use Rattle.holding.proofs.items.lay_out.Statement.{statement}
+use Rattle.holding.proofs.items.lay_out.Tie as tie
 
 abbrev Inv-loop : tie.InvT-loop
 Inv-loop arena ms₀ ps₀ due₀ sums₀ next₀ last₀ count₀ before₀ ms ps due sums next last count before =

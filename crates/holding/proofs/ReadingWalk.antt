@@ -11,8 +11,8 @@ use Rattle.checks.specs.Limits.{bufferWords, mostSizes}
 use Rattle.checks.specs.Answer.{taken}
 use Rattle.slicing.specs.Item.{Item, size}
 use Rattle.slicing.specs.Recorded.{Recorded, items}
-use Rattle.maxplus.specs.declared.read_list.Item.{Item as Read}
-use Rattle.maxplus.specs.declared.read_list.Counted.{Counted}
+use Rattle.holding.specs.declared.items.Item.{Item as Read}
+use Rattle.holding.specs.declared.items.Counted.{Counted}
 use Rattle.arena.specs.Arena.{word, level, mWord, adjust, back}
 use Rattle.arena.specs.Lazy.{lastWith, trueP, held, lazyList}
 use Rattle.arena.specs.inside.Chain.{pUnder, after}
@@ -24,10 +24,10 @@ use Rattle.arena.proofs.ListLaws.{held-length}
 use Rattle.arena.proofs.HeldLaws.{passedSums, sums-on}
 use Rattle.arena.proofs.BackLaws.{last-of-more}
 use Rattle.forwards.specs.inside.Due.{Decides, Are, Passed}
-use Rattle.maxplus.specs.inside.Pass.{Rows, LaidOut, Stands, Follows}
+use Rattle.holding.specs.inside.Pass.{Rows, LaidOut, Stands, Follows}
 use Rattle.forwards.proofs.Decisions.{decided, refuted}
-use Rattle.maxplus.proofs.Following.{due, due-here, due-past, Rest, Meets, Turn, turn, turn-back, rest-full, rest-over, rest-back, rest-none}
-use Rattle.maxplus.proofs.Answering.{uncounted, lazy-rest, rest-lazy, no-list, list-laid}
+use Rattle.holding.proofs.Following.{due, due-here, due-past, Rest, Meets, Turn, turn, turn-back, rest-full, rest-over, rest-back, rest-none}
+use Rattle.holding.proofs.Answering.{uncounted, lazy-rest, rest-lazy, no-list, list-laid}
 
 -- The row of links names the records that are due after those passed.
 abbrev pub Dues : List ℕ → List ℕ → List ℕ → Type 0

@@ -18,7 +18,7 @@ use Rattle.arena.proofs.Cases.{lt-or-ge}
 use Rattle.arena.proofs.Frames.{next-here, next-past}
 use Rattle.arena.proofs.ListLaws.{last-more}
 use Rattle.arena.proofs.BackLaws.{last-of-more}
-use Rattle.maxplus.specs.inside.Pass.{Follows}
+use Rattle.holding.specs.inside.Pass.{Follows}
 
 -- Both of two tests hold where each does.
 pub each : (x y : Bool) → x ≡ true → y ≡ true → (x && y) ≡ true

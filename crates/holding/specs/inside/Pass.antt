@@ -1,9 +1,8 @@
--- What the parts of the pass over a list answer. The contracts inside the reading call cite these, and no public one does.
+-- What the parts of the pass over a list answer.
 use mathlib.Core.Path.{_≡_}
-use mathlib.Core.Bool.{cond}
 use mathlib.Core.List.{List, []}
 use Prim.Native.Nat.{ℕ, _≤_, _<_}
-use lib.Dec.{leb, ltb}
+use lib.Dec.{leb}
 use lib.ListN.{length, getD}
 use Rattle.checks.specs.Check.{Buffers}
 use Rattle.checks.specs.Limits.{mostSizes, bufferWords}
@@ -12,16 +11,7 @@ use Rattle.slicing.specs.Item.{Item, size}
 use Rattle.slicing.specs.Recorded.{Recorded, items}
 use Rattle.arena.specs.Arena.{level, back}
 use Rattle.arena.specs.Lazy.{lazyList}
-use Rattle.maxplus.specs.declared.Reading.{Reading}
-use Rattle.maxplus.specs.declared.read_list.Counted.{Counted}
-
--- A call that is refused.
-abbrev pub refusedReading : ℕ → Reading
-refusedReading n = record { number = n; m = 0; p = 0 }
-
--- What is answered on a list of `count` items, of which the item at the place, counted from 0, is (m, p).
-unfoldable pub readAt : ℕ → ℕ → ℕ → ℕ → Reading
-readAt count at m p = cond (ltb at count) (record { number = 0; m = m; p = p }) (refusedReading 21)
+use Rattle.holding.specs.declared.items.Counted.{Counted}
 
 -- The list that an arena holds, where it is long enough: checks 17 and 20.
 unfoldable pub arenaList : List ℕ → Answer (List Recorded)

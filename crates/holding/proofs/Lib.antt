@@ -1,0 +1,5 @@
+pub mod FollowTests
+pub mod Following
+pub mod Answering
+pub mod ReadingWalk
+pub mod Holds
