@@ -8,33 +8,9 @@ use native.Mathlib.Omega.{arith}
 use lib.ListN.{length, getD, drop, length-drop}
 use lib.Seq.{drop-cons}
 use Rattle.text.specs.inside.Appending.{Appended}
-use Rattle.text.proofs.Appends.{nothing, joined, appended-length, first-room, rest-room}
+use Rattle.text.proofs.Dues.{Due, due-start, due-room, due-more, due-done}
 use Rattle.rendering.specs.Text.{itemLine, gaugeLine, gaugeLines}
 use Rattle.rendering.specs.inside.WordLines.{wordLines}
-
--- The bytes `left` are due at the place reached: they fit, and what appends them there completes `all`.
-pub record Due (old : List ℕ) (at : ℕ) (all left text : List ℕ) (next : ℕ) : Type 0 where
-  pub long : length text ≡ length old
-  pub room : next + length left ≤ length text
-  pub rest : (new : List ℕ) (r : ℕ) → Appended text next left new r → Appended old at all new r
-
-due-start : (old : List ℕ) (at : ℕ) (all : List ℕ) → at + length all ≤ length old → Due old at all all old at
-due-start old at all room = record { long = refl; room = room; rest = λ new r s. s }
-
-module _ (old : List ℕ) (at : ℕ) (all line left text : List ℕ) (next : ℕ) (s : Due old at all (line ++ left) text next) where
-  due-room : next + length line ≤ length text
-  due-room = first-room text next line left (s .room)
-
-  due-more : (new : List ℕ) (r : ℕ) → Appended text next line new r → Due old at all left new r
-  due-more new r t =
-      record {
-        long = appended-length t ∙ s .long;
-        room = rest-room text next line left (s .room) new r t;
-        rest = λ last e u. s .rest last e (joined t u);
-      }
-
-due-done : (old : List ℕ) (at : ℕ) (all text : List ℕ) (next : ℕ) → Due old at all [] text next → Appended old at all text next
-due-done old at all text next s = s .rest text next (nothing text next)
 
 drop-next : (l : List ℕ) (i j : ℕ) → i < length l → j ≡ i + 1 → drop i l ≡ getD l i 0 ∷ drop j l
 drop-next l i j h e = drop-cons l i 0 h ∙ ap (λ (n : ℕ). getD l i 0 ∷ drop n l) (sym (add-one i) ∙ sym e)

@@ -1,5 +1,6 @@
 pub mod Decimals
 pub mod Lengths
 pub mod Appends
+pub mod Dues
 pub mod Copies
 pub mod Numbers
