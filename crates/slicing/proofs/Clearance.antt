@@ -49,7 +49,7 @@ clear-at gap (x ∷ k) d i zero h less few = absurd (omega arith)
 clear-at gap (x ∷ k) d zero (suc j) h less few = h .0 (getD k j d) (at-index k j d (omega arith))
 clear-at gap (x ∷ k) d (suc i) (suc j) h less few = clear-at gap k d i j (h .1) (omega arith) (omega arith)
 
-clear-apart : (gap : ℕ) (x y : Rectangle) (u v : ℕ) → Clear gap x y → Covers x u v → Covers y u v → ⊥
+pub clear-apart : (gap : ℕ) (x y : Rectangle) (u v : ℕ) → Clear gap x y → Covers x u v → Covers y u v → ⊥
 clear-apart gap x y u v (inl h) first second =
     let ends = first .to-right in let starts = second .from-left in omega arith
 clear-apart gap x y u v (inr h) first second =
