@@ -87,39 +87,53 @@ demand-picked rib t o (picked z) means pick r old output e w =
     }
 
 -- No check before 19 is 19's.
-asks-refused : (n g : ℕ) (levels : List ℕ) (rib h w arena scratch output : ℕ) → RefusedBy NotFits (fitAsks n g levels rib (outline h w) arena scratch output)
+asks-refused : (n room : ℕ) (levels : List ℕ) (rib h w arena scratch output : ℕ) → RefusedBy NotFits (fitAsks n room levels rib (outline h w) arena scratch output)
 unfolding fitAsks
-asks-refused n g levels rib h w arena scratch output =
+asks-refused n room levels rib h w arena scratch output =
     also-refused NotFits (levelsLent n levels) _ (levels-refused NotFits n levels (λ e. omega arith) (λ e. omega arith))
     (also-refused NotFits (ribGiven rib) _ (rib-refused NotFits rib (λ e. omega arith))
     (also-refused NotFits (openingGiven (outline h w)) _ (opening-refused NotFits h w (λ e. omega arith))
     (also-refused NotFits (buffersLent bufferWords arena scratch) _ (buffers-refused NotFits bufferWords arena scratch (λ e. omega arith))
-    (output-refused NotFits (5 * g) output (λ e. omega arith)))))
+    (output-refused NotFits room output (λ e. omega arith)))))
 
--- What was asked of a face of n sizes and g gauges, where all was answered "yes".
-module _ (n g : ℕ) (levels : List ℕ) (rib h w arena scratch output : ℕ) where
+-- What was asked of a face of n sizes, where all was answered "yes".
+module _ (n room : ℕ) (levels : List ℕ) (rib h w arena scratch output : ℕ) where
   pub record Lended : Type 0 where
     pub levelled : Levelled n levels
     pub narrow : rib ≤ mostRib
     pub arena-long : bufferWords ≤ arena
     pub scratch-long : bufferWords ≤ scratch
-    pub room : 5 * g ≤ output
+    pub long : room ≤ output
 
-  asks-taken : fitAsks n g levels rib (outline h w) arena scratch output ≡ taken tt → Lended
+  pub asks-taken : fitAsks n room levels rib (outline h w) arena scratch output ≡ taken tt → Lended
   unfolding fitAsks
   asks-taken e =
-      let words = also (buffersLent bufferWords arena scratch) (outputLent (5 * g) output) in
+      let words = also (buffersLent bufferWords arena scratch) (outputLent room output) in
       let first = also-taken (levelsLent n levels) (also (ribGiven rib) (also (openingGiven (outline h w)) words)) tt e in
       let second = also-taken (ribGiven rib) (also (openingGiven (outline h w)) words) tt (first .1) in
       let given = also-taken (openingGiven (outline h w)) words tt (second .1) in
-      let rest = also-taken (buffersLent bufferWords arena scratch) (outputLent (5 * g) output) tt (given .1) in
+      let rest = also-taken (buffersLent bufferWords arena scratch) (outputLent room output) tt (given .1) in
       let long = buffers-taken bufferWords arena scratch (rest .0) in
       record {
         levelled = levels-taken n levels (first .0);
         narrow = rib-taken rib (second .0);
         arena-long = long .0;
         scratch-long = long .1;
-        room = output-taken (5 * g) output (rest .1);
+        long = output-taken room output (rest .1);
+      }
+
+-- Then the face's list can be built in the arena.
+module _ (file levels : List ℕ) (rib h w : ℕ) (arena : List ℕ) (t : Tree) (face : faceOf file ≡ taken t) where
+  pub lended-builds : (room scratch output : ℕ) → Lended (sizeCount t) room levels rib h w (length arena) scratch output → Buildable file levels rib arena
+  lended-builds room scratch output all =
+      record {
+        tree = t;
+        face = face;
+        as-many = all .levelled .as-many;
+        low = all .levelled .low;
+        high = all .levelled .high;
+        narrow = all .narrow;
+        long = all .arena-long;
       }
 
 module _ (file levels : List ℕ) (rib h w : ℕ) (arena scratch output : List ℕ) where
@@ -133,7 +147,7 @@ module _ (file levels : List ℕ) (rib h w : ℕ) (arena scratch output : List �
   answer = fitChecks (faceOf file) levels rib o old
 
   abbrev asked : ℕ → ℕ → Asked
-  asked n g = fitAsks n g levels rib o (length arena) (length scratch) (length output)
+  asked n g = fitAsks n (5 * g) levels rib o (length arena) (length scratch) (length output)
 
   abbrev asks : Tree → Asked
   asks t = asked (sizeCount t) (gaugeCount t)
@@ -142,7 +156,7 @@ module _ (file levels : List ℕ) (rib h w : ℕ) (arena scratch output : List �
   unfolding fitChecks
   before-fits =
       call-refused (faceOf file) asks NotFits (refused-weaker FileCheck NotFits file-not-fits (faceOf file) (face-refused file))
-      (λ t. asks-refused (sizeCount t) (gaugeCount t) levels rib h w (length arena) (length scratch) (length output))
+      (λ t. asks-refused (sizeCount t) (5 * gaugeCount t) levels rib h w (length arena) (length scratch) (length output))
 
   refused-all : (n : ℕ) → (c : Check) × (answer ≡ refused c) × (n ≡ numberOf c) → (r : Fitted) → r ≡ noFace n → FitLeaves answer levels rib o old r old
   refused-all n bad r made =
@@ -180,22 +194,13 @@ module _ (file levels : List ℕ) (rib h w : ℕ) (arena scratch output : List �
           abbrev t : Tree
           t = face .tree
 
-          all : Lended (sizeCount t) (gaugeCount t) levels rib h w (length arena) (length scratch) (length output)
+          all : Lended (sizeCount t) (5 * gaugeCount t) levels rib h w (length arena) (length scratch) (length output)
           all =
-              asks-taken (sizeCount t) (gaugeCount t) levels rib h w (length arena) (length scratch) (length output)
+              asks-taken (sizeCount t) (5 * gaugeCount t) levels rib h w (length arena) (length scratch) (length output)
               (asked-taken (faceOf file) asks f read zero n of-tree passed)
 
           pub fit-builds : Buildable file levels rib arena
-          fit-builds =
-              record {
-                tree = t;
-                face = face .face;
-                as-many = all .levelled .as-many;
-                low = all .levelled .low;
-                high = all .levelled .high;
-                narrow = all .narrow;
-                long = all .arena-long;
-              }
+          fit-builds = lended-builds file levels rib h w arena t (face .face) (5 * gaugeCount t) (length scratch) (length output) all
 
           pub fit-places : Placeable file rib scratch output
           fit-places =
@@ -204,7 +209,7 @@ module _ (file levels : List ℕ) (rib h w : ℕ) (arena scratch output : List �
                 face = face .face;
                 narrow = all .narrow;
                 long = all .scratch-long;
-                room = all .room;
+                room = all .long;
               }
 
           pub fit-done : (kind : ℕ) (arena' scratch' output' : List ℕ) (r : Fitted) → ((t : Tree) → faceOf file ≡ taken t → Whole file levels rib arena arena' kind t) → PlacedIn file rib o r output output' → FitLeaves answer levels rib o old r (lent arena' scratch' output')

@@ -15,18 +15,18 @@ use Rattle.lent.specs.Call.{callOn}
 use Rattle.placing.specs.declared.Fitted.{Fitted}
 use Rattle.placing.specs.Found.{noFace, faceFound, faceWords}
 
--- Of a face of n sizes and g gauges, with buffers of so many words: "As many levels as sizes? 14. Each level 1 to 8? 15." "22 when the rib is above 20, right after 15". "Opening height and width both 1 to" the limit? 16. "Arena and scratch, each 16,384 32-bit words or more? 17. Output long enough? 18. ... the fit call 5g."
+-- Of a face of n sizes, with an output that is to be so long and buffers of so many words: "As many levels as sizes? 14. Each level 1 to 8? 15." "22 when the rib is above 20, right after 15". "Opening height and width both 1 to" the limit? 16. "Arena and scratch, each 16,384 32-bit words or more? 17. Output long enough? 18."
 unfoldable pub fitAsks : ℕ → ℕ → List ℕ → ℕ → Outline → (arena scratch output : ℕ) → Asked
-fitAsks n g levels rib o arena scratch output =
+fitAsks n room levels rib o arena scratch output =
     also (levelsLent n levels)
     (also (ribGiven rib)
-    (also (openingGiven o) (also (buffersLent bufferWords arena scratch) (outputLent (5 * g) output))))
+    (also (openingGiven o) (also (buffersLent bufferWords arena scratch) (outputLent room output))))
 
--- The fit call makes checks 1 to 18, and 22. What they take is the face.
+-- The fit call makes checks 1 to 18, and 22: "the fit call 5g". What they take is the face.
 unfoldable pub fitChecks : Answer Tree → List ℕ → ℕ → Outline → Lent → Answer Tree
 fitChecks face levels rib o old =
     callOn face
-    (λ t. fitAsks (sizeCount t) (gaugeCount t) levels rib o (length (old .arena)) (length (old .scratch)) (length (old .output)))
+    (λ t. fitAsks (sizeCount t) (5 * gaugeCount t) levels rib o (length (old .arena)) (length (old .scratch)) (length (old .output)))
 
 -- What it answers: the number of the check that fails, or the face that is found.
 abbrev pub fitted : Answer Tree → ℕ → Outline → Fitted

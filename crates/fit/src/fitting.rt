@@ -1,8 +1,6 @@
 // The fit call.
 ghost use mathlib.Core.Path.{_≡_};
-ghost use Prim.Native.Nat.{_≤_};
 ghost use Rattle.checks.specs.Answer.{number};
-ghost use Rattle.checks.specs.Limits.{mostGauges};
 ghost use Rattle.slicing.specs.Layout.{outline};
 ghost use Rattle.facefile.specs.Format.{faceOf};
 ghost use Rattle.lent.specs.Lent.{lent};
@@ -14,29 +12,28 @@ use placing::Fitted;
 use placing::place_face;
 use placing::refused;
 
-// How many words the buffers have that a call is lent.
-struct Lengths {
+// How long the buffers are that a call is lent.
+pub struct Lengths {
     pub arena: usize,
     pub scratch: usize,
     pub output: usize,
 }
 
-// Checks 14, 15, 22 and 16 to 18, of the levels, the rib, the opening and the lengths of the lent buffers: the number of
-// the first that fails, or 0.
-fn asked_number(
+// Checks 14, 15, 22 and 16 to 18, of the levels, the rib, the opening and the lengths of the lent buffers, where the output
+// is to be so long: the number of the first that fails, or 0.
+pub fn asked_number(
     n: usize,
-    g: usize,
+    room: usize,
     levels: &[u8],
     rib: u32,
     height: u32,
     width: u32,
     lengths: Lengths,
 ) -> u32
-    requires { ⌜ g ≤ mostGauges ⌝ }
-    ensures { λ r. ⌜ r ≡ number (fitAsks n g (now (levels .entry)) rib (outline height width) (lengths .arena) (lengths .scratch) (lengths .output)) ⌝ }
+    ensures { λ r. ⌜ r ≡ number (fitAsks n room (now (levels .entry)) rib (outline height width) (lengths .arena) (lengths .scratch) (lengths .output)) ⌝ }
 {
     let buffers = lent::buffers_number(WORDS, lengths.arena, lengths.scratch);
-    let words = checks::first_no(buffers, lent::output_number(5 * g, lengths.output));
+    let words = checks::first_no(buffers, lent::output_number(room, lengths.output));
     let opening = checks::first_no(lent::opening_number(height, width), words);
     let given = checks::first_no(lent::rib_number(rib), opening);
     checks::first_no(lent::levels_number(n, levels), given)
@@ -66,7 +63,8 @@ pub fn fit(
         scratch: scratch.len(),
         output: output.len(),
     };
-    let number = asked_number(face.sizes, face.gauges, levels, rib, height, width, lengths);
+    let room = 5 * face.gauges;
+    let number = asked_number(face.sizes, room, levels, rib, height, width, lengths);
     if number != checks::TAKEN {
         return refused(number);
     }

@@ -119,7 +119,7 @@ holds (fits file rib o answer output) =
     sameFitted (fitted (faceOf file) rib o) answer && same (fitOutput (faceOf file) rib o []) output
 holds (asks rib o listed fit) =
     eqb (number (listAsks 4 2 ones rib bufferWords bufferWords 6)) listed
-    && eqb (number (fitAsks 4 2 ones rib o bufferWords bufferWords 10)) fit
+    && eqb (number (fitAsks 4 10 ones rib o bufferWords bufferWords 10)) fit
 holds (saves given room n output) =
     eqb (number (saveCall (wordsFace given) (lentRoom room))) n
     && same (savedOutput (saveCall (wordsFace given) (lentRoom room)) (lentRoom room)) output

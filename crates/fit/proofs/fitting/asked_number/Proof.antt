@@ -9,9 +9,6 @@ use Rattle.fit.proofs.fitting.asked_number.Tie as tie
 buffers-number-requires : tie.Need-buffers-number-requires
 buffers-number-requires c κs = search needs
 
-mul-output-number : tie.Need-mul-output-number
-mul-output-number c = search needs
-
 output-number-requires : tie.Need-output-number-requires
 output-number-requires c κs = search needs
 
@@ -45,7 +42,6 @@ asked-number-spec =
     tie.close
     (tie.spec
     buffers-number-requires
-    mul-output-number
     output-number-requires
     first-no-requires
     opening-number-requires
