@@ -1,6 +1,6 @@
 -- The law of a call on a face, whatever the answer of the file and whatever it asks: it is refused by the file, refused by what it asks beside it, or taken.
 -- The reader's answer sums up that of the file, and the number of what is asked is the definition's.
-use mathlib.Core.Path.{_≡_, sym, ap, _∙_}
+use mathlib.Core.Path.{_≡_, sym, ap, subst, _∙_}
 use mathlib.Core.List.{List}
 use Prim.Native.Nat.{ℕ, _≤_}
 use native.Mathlib.Omega.{arith}
@@ -29,6 +29,12 @@ module _ (face : Answer Tree) (asks : Tree → Asked) where
   pub call-refused : (P : Check → Type 0) → RefusedBy P face → ((t : Tree) → RefusedBy P (asks t)) → RefusedBy P (callOn face asks)
   call-refused P by-face by-asks =
       next-refused P face (λ t. also (asks t) (taken t)) by-face (λ t. also-refused P (asks t) (taken t) (by-asks t) tt)
+
+  -- What is promised by the answer of a call's checks, and kept of every check that refuses it by an answer of its number alone, is kept of a refusal.
+  pub refusal-kept : {A : Type 0} (Left : Answer Tree → A → Type 0) (none : ℕ → A) → ((c : Check) → Left (refused c) (none (numberOf c))) → (n : ℕ) → (c : Check) × (callOn face asks ≡ refused c) × (n ≡ numberOf c) → (r : A) → r ≡ none n → Left (callOn face asks) r
+  refusal-kept {A} Left none kept n bad r made =
+      subst (λ (a : Answer Tree). Left a r) (sym (bad .1))
+      (subst (λ (x : A). Left (refused (bad .0)) x) (sym (made ∙ ap none (bad .2))) (kept (bad .0)))
 
   -- With what the reader answers of the file.
   module _ (f : Face) (read : f ≡ summary face) where

@@ -3,7 +3,7 @@ use mathlib.Core.List.{List, _++_}
 use Prim.Native.Nat.{ℕ}
 use lib.ListN.{length, drop}
 
--- The word buffers of a call: before it, or after it.
+-- The buffers of a call, before it or after it. The output is of words or, for a text, of bytes.
 pub record Lent : Type 0 where
   pub arena : List ℕ
   pub scratch : List ℕ

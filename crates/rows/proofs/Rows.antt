@@ -7,7 +7,7 @@ use Prim.Native.Nat.{ℕ, zero, suc, _+_, _*_}
 use lib.Dec.{ltb, eqb}
 use lib.ListN.{replicate, take, drop}
 use Rattle.checks.specs.Limits.{bufferWords}
-use Rattle.checks.specs.Answer.{number, outcome}
+use Rattle.checks.specs.Answer.{Answer, number, outcome}
 use Rattle.slicing.specs.Item.{Item, size}
 use Rattle.slicing.specs.Tree.{Tree, sizeCount, leastDepth, mostDepth}
 use Rattle.slicing.specs.Useful.{indexOf, gaugeShapes}
@@ -24,7 +24,7 @@ use Rattle.arena.specs.Arena.{word}
 use Rattle.arena.specs.Lazy.{nextWith, lastWith, sumFrom, trueP, held, walk, linksRight, linked, falling, backsRight, lazyList}
 use Rattle.maxplus.specs.declared.Reading.{Reading}
 use Rattle.maxplus.specs.Read.{readItem, readLow, reading}
-use Rattle.lent.specs.Lent.{writtenOver}
+use Rattle.lent.specs.Lent.{lent, writtenOver}
 use Rattle.lent.specs.Questions.{levelCount, levelRange, levelsLent, ribGiven, openingGiven, buffersLent, outputLent}
 use Rattle.writing.specs.Words.{listWords}
 use Rattle.placing.specs.declared.Fitted.{Fitted}
@@ -35,6 +35,9 @@ use Rattle.walking.specs.Widths.{widthFor}
 use Rattle.walking.specs.Walk.{seek, walked}
 use Rattle.catalogue.specs.Heights.{heightsGiven}
 use Rattle.catalogue.specs.Catalogue.{widthAsks, catalogued, widthOutput}
+use Rattle.covering.specs.Covered.{total}
+use Rattle.materialsheet.specs.declared.Printed.{Printed}
+use Rattle.materialsheet.specs.Sheet.{sheetOf, sheetChecks, noSheet, printed as printedSheet, sheetOutput}
 use Rattle.written.specs.FileOf.{fileOf}
 use Rattle.facewords.specs.Words.{firstWord, wordsFace, wordsOf}
 use Rattle.saving.specs.Saving.{saveCall, savedOutput, wordCall, wordOutput}
@@ -54,6 +57,8 @@ pub data Row : Type 0 where
   widths : List ℕ → ℕ → List ℕ → ℕ → ℕ → List ℕ → Row
   -- Heights, and how many words are lent for their widths: the number of the catalogue call's questions.
   heights : List ℕ → ℕ → ℕ → Row
+  -- A file's face, with a rib, in an opening, and how many bytes are lent: what the sheet call answers, and its output.
+  sheets : List ℕ → ℕ → Outline → ℕ → Printed → List ℕ → Row
   -- A file of a lopsided tree of n sizes, and its top level.
   tops : List ℕ → ℕ → ℕ → Row
   -- A size number and its uncut level.
@@ -113,6 +118,15 @@ ones = replicate 4 1
 abbrev lentRoom : ℕ → List ℕ
 lentRoom n = replicate n 7
 
+-- The answer of the checks of the sheet call on a file, with the levels of its sizes and arena and scratch long enough.
+abbrev sheetTaken : List ℕ → ℕ → Outline → ℕ → Answer Tree
+sheetTaken file rib o bytes =
+    sheetChecks (faceOf file) (outcome (faceOf file) [] (λ t. replicate (sizeCount t) 1)) rib o
+    (lent (lentRoom bufferWords) (lentRoom bufferWords) (lentRoom bytes))
+
+abbrev samePrinted : Printed → Printed → Bool
+samePrinted a b = eqb (a .number) (b .number) && eqb (a .length) (b .length)
+
 abbrev pub holds : Row → Bool
 holds (lists file rib items) = outcome (faceOf file) false (λ t. same (listWords (shapes rib t)) (listWords items))
 holds (fits file rib o answer output) =
@@ -129,6 +143,9 @@ holds (words file room n output) =
 holds (widths file rib given room looks output) =
     eqb (catalogued (faceOf file) rib given .looks) looks && same (widthOutput (faceOf file) rib given (lentRoom room)) output
 holds (heights given room n) = eqb (number (widthAsks 4 ones 0 given bufferWords bufferWords room)) n
+holds (sheets file rib o bytes answer output) =
+    samePrinted (printedSheet (sheetTaken file rib o bytes) rib o) answer
+    && same (sheetOutput (sheetTaken file rib o bytes) rib o (lentRoom bytes)) output
 holds (tops file n level) = outcome (faceOf file) false (topHolds n level)
 holds (uncuts r level) = eqb (uncutLevel r) level
 holds (reads p adjust true-p) =
@@ -233,6 +250,77 @@ abbrev ungrouped : ℕ → List ℕ
 ungrouped zero = []
 ungrouped (suc k) = 1 ∷ 1 ∷ 1 ∷ 1 ∷ ungrouped k
 
+-- Paper 7, the sheet of document 01's file.
+abbrev sheetTouching : List ℕ
+sheetTouching =
+    -- 1 40 60 2400
+    0x31 ∷ 0x20 ∷ 0x34 ∷ 0x30 ∷ 0x20 ∷ 0x36 ∷ 0x30 ∷ 0x20 ∷ 0x32 ∷ 0x34 ∷ 0x30 ∷ 0x30 ∷ 0x0A ∷
+    -- 2 30 50 1500
+    0x32 ∷ 0x20 ∷ 0x33 ∷ 0x30 ∷ 0x20 ∷ 0x35 ∷ 0x30 ∷ 0x20 ∷ 0x31 ∷ 0x35 ∷ 0x30 ∷ 0x30 ∷ 0x0A ∷
+    -- used 3900
+    0x75 ∷ 0x73 ∷ 0x65 ∷ 0x64 ∷ 0x20 ∷ 0x33 ∷ 0x39 ∷ 0x30 ∷ 0x30 ∷ 0x0A ∷
+    -- blank 300
+    0x62 ∷ 0x6C ∷ 0x61 ∷ 0x6E ∷ 0x6B ∷ 0x20 ∷ 0x33 ∷ 0x30 ∷ 0x30 ∷ 0x0A ∷
+    -- face 4200
+    0x66 ∷ 0x61 ∷ 0x63 ∷ 0x65 ∷ 0x20 ∷ 0x34 ∷ 0x32 ∷ 0x30 ∷ 0x30 ∷ 0x0A ∷ []
+
+-- The same with a rib of 5.
+abbrev sheetWithRib : List ℕ
+sheetWithRib =
+    -- 1 40 60 2400
+    0x31 ∷ 0x20 ∷ 0x34 ∷ 0x30 ∷ 0x20 ∷ 0x36 ∷ 0x30 ∷ 0x20 ∷ 0x32 ∷ 0x34 ∷ 0x30 ∷ 0x30 ∷ 0x0A ∷
+    -- 2 30 50 1500
+    0x32 ∷ 0x20 ∷ 0x33 ∷ 0x30 ∷ 0x20 ∷ 0x35 ∷ 0x30 ∷ 0x20 ∷ 0x31 ∷ 0x35 ∷ 0x30 ∷ 0x30 ∷ 0x0A ∷
+    -- used 3900
+    0x75 ∷ 0x73 ∷ 0x65 ∷ 0x64 ∷ 0x20 ∷ 0x33 ∷ 0x39 ∷ 0x30 ∷ 0x30 ∷ 0x0A ∷
+    -- blank 600
+    0x62 ∷ 0x6C ∷ 0x61 ∷ 0x6E ∷ 0x6B ∷ 0x20 ∷ 0x36 ∷ 0x30 ∷ 0x30 ∷ 0x0A ∷
+    -- face 4500
+    0x66 ∷ 0x61 ∷ 0x63 ∷ 0x65 ∷ 0x20 ∷ 0x34 ∷ 0x35 ∷ 0x30 ∷ 0x30 ∷ 0x0A ∷ []
+
+-- The same without a rib, 40 high.
+abbrev sheetLow : List ℕ
+sheetLow =
+    -- 1 60 40 2400
+    0x31 ∷ 0x20 ∷ 0x36 ∷ 0x30 ∷ 0x20 ∷ 0x34 ∷ 0x30 ∷ 0x20 ∷ 0x32 ∷ 0x34 ∷ 0x30 ∷ 0x30 ∷ 0x0A ∷
+    -- 2 50 30 1500
+    0x32 ∷ 0x20 ∷ 0x35 ∷ 0x30 ∷ 0x20 ∷ 0x33 ∷ 0x30 ∷ 0x20 ∷ 0x31 ∷ 0x35 ∷ 0x30 ∷ 0x30 ∷ 0x0A ∷
+    -- used 3900
+    0x75 ∷ 0x73 ∷ 0x65 ∷ 0x64 ∷ 0x20 ∷ 0x33 ∷ 0x39 ∷ 0x30 ∷ 0x30 ∷ 0x0A ∷
+    -- blank 500
+    0x62 ∷ 0x6C ∷ 0x61 ∷ 0x6E ∷ 0x6B ∷ 0x20 ∷ 0x35 ∷ 0x30 ∷ 0x30 ∷ 0x0A ∷
+    -- face 4400
+    0x66 ∷ 0x61 ∷ 0x63 ∷ 0x65 ∷ 0x20 ∷ 0x34 ∷ 0x34 ∷ 0x30 ∷ 0x30 ∷ 0x0A ∷ []
+
+-- That of the two gauges stacked, with a rib of 5.
+abbrev sheetStacked : List ℕ
+sheetStacked =
+    -- 1 60 40 2400
+    0x31 ∷ 0x20 ∷ 0x36 ∷ 0x30 ∷ 0x20 ∷ 0x34 ∷ 0x30 ∷ 0x20 ∷ 0x32 ∷ 0x34 ∷ 0x30 ∷ 0x30 ∷ 0x0A ∷
+    -- 2 50 30 1500
+    0x32 ∷ 0x20 ∷ 0x35 ∷ 0x30 ∷ 0x20 ∷ 0x33 ∷ 0x30 ∷ 0x20 ∷ 0x31 ∷ 0x35 ∷ 0x30 ∷ 0x30 ∷ 0x0A ∷
+    -- used 3900
+    0x75 ∷ 0x73 ∷ 0x65 ∷ 0x64 ∷ 0x20 ∷ 0x33 ∷ 0x39 ∷ 0x30 ∷ 0x30 ∷ 0x0A ∷
+    -- blank 600
+    0x62 ∷ 0x6C ∷ 0x61 ∷ 0x6E ∷ 0x6B ∷ 0x20 ∷ 0x36 ∷ 0x30 ∷ 0x30 ∷ 0x0A ∷
+    -- face 4500
+    0x66 ∷ 0x61 ∷ 0x63 ∷ 0x65 ∷ 0x20 ∷ 0x34 ∷ 0x35 ∷ 0x30 ∷ 0x30 ∷ 0x0A ∷ []
+
+-- That of a lone (1, 1).
+abbrev sheetLone : List ℕ
+sheetLone =
+    -- 1 1 1 1
+    0x31 ∷ 0x20 ∷ 0x31 ∷ 0x20 ∷ 0x31 ∷ 0x20 ∷ 0x31 ∷ 0x0A ∷
+    -- used 1
+    0x75 ∷ 0x73 ∷ 0x65 ∷ 0x64 ∷ 0x20 ∷ 0x31 ∷ 0x0A ∷
+    -- blank 0
+    0x62 ∷ 0x6C ∷ 0x61 ∷ 0x6E ∷ 0x6B ∷ 0x20 ∷ 0x30 ∷ 0x0A ∷
+    -- face 1
+    0x66 ∷ 0x61 ∷ 0x63 ∷ 0x65 ∷ 0x20 ∷ 0x31 ∷ 0x0A ∷ []
+
+abbrev sheet : ℕ → Printed
+sheet length = record { number = 0; length = length }
+
 abbrev face : ℕ → ℕ → ℕ → ℕ → Fitted
 face h w area count = record { number = 0; height = h; width = w; area = area; count = count }
 
@@ -303,6 +391,17 @@ rows =
     ∷ heights (60 ∷ 60 ∷ []) 1 18
     ∷ heights (60 ∷ 61 ∷ []) 1 23
     ∷ heights (60 ∷ 0 ∷ []) 1 23
+    ∷ sheets example 0 (outline 64_000 64_000) 128 (sheet 56) (sheetTouching ++ lentRoom 72)
+    ∷ sheets example 5 (outline 65_260 65_260) 128 (sheet 56) (sheetWithRib ++ lentRoom 72)
+    ∷ sheets example 0 (outline 40 110) 129 (sheet 56) (sheetLow ++ lentRoom 73)
+    ∷ sheets stackedInstead 5 (outline 75 60) 128 (sheet 56) (sheetStacked ++ lentRoom 72)
+    ∷ sheets loneSize 0 (outline 1 1) 96 (sheet 30) (sheetLone ++ lentRoom 66)
+    ∷ sheets example 0 (outline 40 109) 128 (noSheet 19) (lentRoom 128)
+    ∷ sheets example 0 (outline 40 109) 127 (noSheet 18) (lentRoom 127)
+    ∷ sheets example 0 (outline 64_000 64_000) 127 (noSheet 18) (lentRoom 127)
+    ∷ sheets example 20 (outline 0 64_000) 127 (noSheet 16) (lentRoom 127)
+    ∷ sheets example 21 (outline 0 64_000) 127 (noSheet 22) (lentRoom 127)
+    ∷ sheets (take 27 example) 21 (outline 0 64_000) 127 (noSheet 5) (lentRoom 127)
     ∷ tops (lopsided 7 15) 127 1
     ∷ tops (lopsided 8 15) 128 2
     ∷ tops (lopsided 7 63) 511 2
@@ -322,5 +421,5 @@ rows =
     ∷ []
 
 pub rows-hold : all holds rows ≡ true
-unfolding widthFor seek walked heightsGiven widthAsks saveCall wordCall firstWord wordsFace wordsOf fileOf levelCount levelRange levelsLent ribGiven openingGiven buffersLent outputLent listAsks fitAsks header sizesAfter sizesFrom gaugeSizes gaugeEntry joinParts joinEntry kindEntry entry entries onePart atEnd faceOf merge turn gaugeShapes shapes smallest noTaller indexOf place listWords writtenOver timesFour uncutLevel largestPower topLevel word nextWith lastWith sumFrom trueP held walk linksRight linked falling backsRight lazyList readItem readLow
+unfolding total sheetOf sheetChecks widthFor seek walked heightsGiven widthAsks saveCall wordCall firstWord wordsFace wordsOf fileOf levelCount levelRange levelsLent ribGiven openingGiven buffersLent outputLent listAsks fitAsks header sizesAfter sizesFrom gaugeSizes gaugeEntry joinParts joinEntry kindEntry entry entries onePart atEnd faceOf merge turn gaugeShapes shapes smallest noTaller indexOf place listWords writtenOver timesFour uncutLevel largestPower topLevel word nextWith lastWith sumFrom trueP held walk linksRight linked falling backsRight lazyList readItem readLow
 rows-hold = refl

@@ -1,0 +1,3 @@
+pub mod PlacedSheet
+pub mod SheetCall
+pub mod SheetMeans

@@ -1,0 +1,4 @@
+pub mod Sheet
+pub mod Promise
+pub mod SheetMeans
+pub mod inside
