@@ -2,7 +2,7 @@
 -- The words of the list and of the layout stand at the starts of the outputs, and the answer of the placing says which of the two texts is due.
 use mathlib.Core.Path.{_≡_, refl, sym, ap, subst, _∙_}
 use mathlib.Core.List.{List}
-use Prim.Native.Nat.{ℕ, _*_, _≤_, _<_}
+use Prim.Native.Nat.{ℕ, _*_, _≤_}
 use native.Mathlib.Omega.{arith}
 use lib.ListN.{length, take, length-take}
 use lib.Seq.{length-take-le}
@@ -27,7 +27,7 @@ use Rattle.placing.specs.Found.{faceFound, faceWords}
 use Rattle.placing.specs.inside.Facing.{PlacedFace, PlacedIn}
 use Rattle.rendering.specs.Text.{facesText, refusedText}
 use Rattle.rendering.specs.Room.{textBytes}
-use Rattle.report.specs.Faces.{widest, pickPrinted, facesPrinted, FacesText}
+use Rattle.report.specs.Faces.{widest, pickPrinted, facesPrinted}
 use Rattle.report.specs.inside.Telling.{Tallied, Levelled, Worked}
 use Rattle.report.proofs.Levelling.{sizes-most}
 
@@ -113,13 +113,6 @@ module _ (file levels : List ℕ) (gauges : ℕ) (arena items items' layout layo
         other-text (pickPrinted t (smallest widest (shapes 0 t))) (facesPrinted (faceOf file)) old new r (sym (ap facesPrinted (c .ready .tallied .face))) (p t worked)
 
 -- The whole file.
-module _ (file old new : List ℕ) (r : ℕ) where
-  pub text-short : length old < textBytes → r ≡ 0 → new ≡ old → FacesText (faceOf file) old new r
-  text-short less e same = record { long = λ enough. absurd (omega arith); short = λ _. (e, same) }
-
-  pub text-long : textBytes ≤ length old → Printed (facesPrinted (faceOf file)) old new r → FacesText (faceOf file) old new r
-  text-long enough p = record { long = λ _. p; short = λ less. absurd (omega arith) }
-
 module _ (file : List ℕ) (f : Face) (read : f ≡ summary (faceOf file)) where
   pub text-refused : (f .number ≡ 0 → ⊥) → (old new : List ℕ) (r : ℕ) → Printed (refusedText (f .number)) old new r → Printed (facesPrinted (faceOf file)) old new r
   unfolding facesPrinted

@@ -1,9 +1,7 @@
 -- Document 01: "A program `faces` reads a file from standard input, fits it to 64,000 by 64,000 and prints as below, or one line such as `refused 4`." What it prints for a file's bytes, and what the function that makes that text leaves.
-use mathlib.Core.Path.{_≡_}
 use mathlib.Core.List.{List}
-use Prim.Native.Nat.{ℕ, _≤_, _<_}
-use lib.ListN.{length}
-use Rattle.text.specs.Printing.{Printed}
+use Prim.Native.Nat.{ℕ}
+use Rattle.text.specs.Printing.{PrintedWithin}
 use Rattle.checks.specs.Check.{Fits, numberOf}
 use Rattle.checks.specs.Answer.{Answer, refused, taken}
 use Rattle.slicing.specs.Tree.{Tree}
@@ -28,6 +26,5 @@ facesPrinted (refused c) = refusedText (numberOf c)
 facesPrinted (taken t) = pickPrinted t (smallest widest (shapes 0 t))
 
 -- The text of the file stands in a buffer with room for every text, and the answer is its length. A shorter buffer is as it was, and the answer is 0.
-pub record FacesText (face : Answer Tree) (old new : List ℕ) (r : ℕ) : Type 0 where
-  pub long : textBytes ≤ length old → Printed (facesPrinted face) old new r
-  pub short : length old < textBytes → (r ≡ 0) × (new ≡ old)
+abbrev pub FacesText : Answer Tree → (old new : List ℕ) (r : ℕ) → Type 0
+FacesText face old new r = PrintedWithin textBytes (facesPrinted face) old new r

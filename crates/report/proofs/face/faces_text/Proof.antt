@@ -4,13 +4,14 @@ use mathlib.Core.Path.{refl}
 use native.Mathlib.Omega.{arith}
 use borrow.Author.Needs.{needs}
 use Rattle.lent.proofs.Calling.{read-few}
-use Rattle.report.proofs.Telling.{text-short, text-long, text-refused, tallied-part, part-counted}
+use Rattle.text.proofs.Printings.{text-short, text-long}
+use Rattle.report.proofs.Telling.{text-refused, tallied-part, part-counted}
 use Rattle.report.proofs.face.faces_text.Statement.{statement}
 use Rattle.report.proofs.face.faces_text.Tie as tie
 
 returns : tie.Need-returns
 returns c =
-    (text-short (c .before .before .before .args .file .now) (c .before .before .before .args .text .now) _ 0 (c .if1 .taken) refl refl, (omega arith, refl))
+    (text-short _ _ (c .before .before .before .args .text .now) _ 0 (c .if1 .taken) refl refl, (omega arith, refl))
 
 read-requires : tie.Need-read-requires
 read-requires c κs = search needs
@@ -28,7 +29,7 @@ returns-2 c =
     let at-if1 = at-read .before in
     let start = at-if1 .before .before .before in
     let e = c .before .before .render-refused .ensures in
-    (text-long (start .args .file .now) (start .args .text .now) _ _ (at-if1 .if1 .left) (text-refused (start .args .file .now) (at-read .read .result) (at-read .read .ensures) (at-if2 .if2 .taken) _ _ _ (e .0)), (omega (arith, e .1 .0), e .1 .1))
+    (text-long _ _ (start .args .text .now) _ _ (at-if1 .if1 .left) (text-refused (start .args .file .now) (at-read .read .result) (at-read .read .ensures) (at-if2 .if2 .taken) _ _ _ (e .0)), (omega (arith, e .1 .0), e .1 .1))
 
 levels-room-requires : tie.Need-levels-room-requires
 levels-room-requires c κs = search needs
@@ -64,7 +65,7 @@ returns-3 c =
     let at-if1 = at-taken-text .before .before .before .before .before .before .before in
     let start = at-if1 .before .before .before in
     let e = at-taken-text .taken-text .ensures in
-    (text-long (start .args .file .now) (start .args .text .now) _ _ (at-if1 .if1 .left) (e .0), e .1)
+    (text-long _ _ (start .args .text .now) _ _ (at-if1 .if1 .left) (e .0), e .1)
 
 pub faces-text-spec : {M : Type 1} → statement M
 faces-text-spec =
