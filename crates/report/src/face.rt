@@ -19,10 +19,10 @@ use rendering::render::render;
 use rendering::render::render_refused;
 
 // The height and the width of the opening.
-const OPENING: u32 = 64_000;
+pub const OPENING: u32 = 64_000;
 
 // The rib: parts touch.
-const RIB: u32 = 0;
+pub const RIB: u32 = 0;
 
 // The levels of at most 512 sizes. The `ensures` here and below give only the lengths, which lending needs.
 fn levels_room() -> [u8; SIZES]
