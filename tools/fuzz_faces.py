@@ -1,12 +1,13 @@
 #!/usr/bin/env python3
-"""Runs random and damaged files through `faces` and through the calls, and compares each answer with the models'.
+"""Runs random and damaged files through `faces` and `material` and through the calls, and compares each answer with the
+models'.
 
     python3 tools/fuzz_faces.py --files 100000 --seed 1
 
-Each file goes to target/bin/faces, one process a file, and three times to target/bin/cases, one process for many files:
-the reader, the text of `faces`, and the list, fit, catalogue, levels or gauge-bytes call, the reading of the file to
-words, or the same and the words written again, drawn at random. It prints how many ran and how many differ, and exits 1
-on any difference, crash or hang.
+Each file goes to target/bin/faces and to target/bin/material, one process a file, and three times to target/bin/cases,
+one process for many files: the reader, the text of `faces`, and the list, fit, catalogue, sheet, levels or gauge-bytes
+call, the text of `material`, the reading of the file to words, or the same and the words written again, drawn at random.
+It prints how many ran and how many differ, and exits 1 on any difference, crash or hang.
 """
 
 import argparse
@@ -19,9 +20,10 @@ import sys
 sys.dont_write_bytecode = True
 
 from making import case, random_cases, random_faces, running
-from models import fit_model, list_model, text_model
+from models import fit_model, list_model, sheet_model, text_model
 
 FACES_PROGRAM = running.ROOT / "target" / "bin" / "faces"
+MATERIAL_PROGRAM = FACES_PROGRAM.with_name("material")
 
 # The files that go to one process of cases.
 BLOCK = 2500
@@ -30,7 +32,7 @@ BLOCK = 2500
 BLOCK_SECONDS = 300
 FILE_SECONDS = 10
 
-# The processes of `faces` that run side by side.
+# The processes of a program that run side by side.
 SIDE_BY_SIDE = 2
 
 # Of so many faces the damaged files are made; a face is changed for another after some use.
@@ -38,6 +40,7 @@ FACES = 200
 
 CALLS = [random_cases.some_list, random_cases.some_fit, random_cases.some_widths, random_cases.some_fill]
 CALLS += [random_cases.some_gauge, random_cases.some_words, random_cases.some_again]
+CALLS += [random_cases.some_sheet, random_cases.some_material]
 
 
 # ---------------------------------------------------------------------------------------------------------------
@@ -114,10 +117,10 @@ ODD += [random_faces.face(random.Random(length)) + bytes(length) for length in (
 # Running
 
 
-def run_file(file):
-    """What `faces` prints for a file, or what is wrong with its run."""
+def run_file(program, file):
+    """What a program prints for a file, or what is wrong with its run."""
     try:
-        done = subprocess.run([FACES_PROGRAM], input=file, capture_output=True, timeout=FILE_SECONDS, close_fds=False)
+        done = subprocess.run([program], input=file, capture_output=True, timeout=FILE_SECONDS, close_fds=False)
     except subprocess.TimeoutExpired:
         return "no end\n"
     if done.returncode != 0 or done.stderr:
@@ -125,14 +128,14 @@ def run_file(file):
     return done.stdout.decode()
 
 
-def run_faces(files, texts):
-    """How many of the files `faces` answers with another text."""
+def run_files(program, files, texts):
+    """How many of the files a program answers with another text."""
     wrong = 0
     with concurrent.futures.ThreadPoolExecutor(SIDE_BY_SIDE) as pool:
-        for file, wanted, found in zip(files, texts, pool.map(run_file, files)):
+        for file, wanted, found in zip(files, texts, pool.map(lambda file: run_file(program, file), files)):
             if found != wanted:
                 wrong += 1
-                print(f"file     {file.hex()[:2000]}\nexpected {wanted[:2000]}found    {found[:2000]}")
+                print(f"{program.name}\nfile     {file.hex()[:2000]}\nexpected {wanted[:2000]}found    {found[:2000]}")
     return wrong
 
 
@@ -152,6 +155,7 @@ def forget():
     """Empties what the models keep of each file."""
     fit_model.root_part.cache_clear()
     list_model.outer_sizes.cache_clear()
+    sheet_model.layout_text.cache_clear()
 
 
 def kind_of(text):
@@ -168,19 +172,21 @@ def main():
     rng = random.Random(given.seed)
     source = Files(rng)
     kinds = collections.Counter()
-    by_faces = by_calls = 0
+    by_programs = by_calls = 0
     waiting = list(ODD)
     for start in range(0, given.files, BLOCK):
         count = min(BLOCK, given.files - start)
         files = [waiting.pop() if waiting else source.take() for _ in range(count)]
         texts = [text_model.text_of(file) for file in files]
         kinds.update(kind_of(text) for text in texts)
-        by_faces += run_faces(files, texts)
+        by_programs += run_files(FACES_PROGRAM, files, texts)
+        by_programs += run_files(MATERIAL_PROGRAM, files, [sheet_model.text_of(file).decode() for file in files])
         by_calls += run_calls(rng, files)
         forget()
     print(", ".join(f"{kind}: {kinds[kind]}" for kind in sorted(kinds)))
-    print(f"{given.files} files through faces, {by_faces} differ; {3 * given.files} cases of them, {by_calls} differ")
-    sys.exit(1 if by_faces + by_calls else 0)
+    through = f"{given.files} files through faces and material, {by_programs} differ"
+    print(f"{through}; {3 * given.files} cases of them, {by_calls} differ")
+    sys.exit(1 if by_programs + by_calls else 0)
 
 
 if __name__ == "__main__":

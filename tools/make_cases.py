@@ -1,6 +1,7 @@
 #!/usr/bin/env python3
-"""Writes what the gate runs the programs on, and what they must print: of crates/cases, crates/cases_heights and
-crates/cases_low the stored cases of every call, each with its name; of crates/faces and crates/faces_long some faces.
+"""Writes what the gate runs the programs on, and what they must print: of crates/cases, crates/cases_heights,
+crates/cases_low and crates/cases_sheet the stored cases of every call, each with its name; of crates/faces,
+crates/faces_long and crates/material some faces.
 
     python3 tools/make_cases.py            writes them
     python3 tools/make_cases.py --check    writes nothing, and says whether they are as it would write them
@@ -10,9 +11,10 @@ tools/making/ has the files: for the reader and the levels (face_files.py), the 
 calls with ribs (rib_files.py); the calls that are made on each file (calls.py, with ribs rib_calls.py); the arenas of
 the reading call (arenas.py), and those that the list call leaves it (read_calls.py); the words of the writing call
 (word_files.py), with the calls between words and files (word_calls.py); the heights of the catalogue call
-(height_files.py), with the calls on them (height_calls.py); pseudo-random cases (random_cases.py); and what `faces` is
-run on (faces_inputs.py). What is expected comes from the models. It stops where they and an answer that was worked out
-by hand differ.
+(height_files.py), with the calls on them (height_calls.py); the sheets of the sheet call (sheet_files.py), with the calls
+for them (sheet_calls.py); pseudo-random cases (random_cases.py); and what `faces` and `material` are run on
+(faces_inputs.py). What is expected comes from the models. It stops where they and an answer that was worked out by hand
+differ.
 """
 
 import collections
@@ -22,16 +24,19 @@ import sys
 sys.dont_write_bytecode = True
 
 from making import arenas, calls, face_files, faces_inputs, fit_files, height_calls, height_files, list_files
-from making import printed_files, random_cases, read_calls, rib_calls, rib_files, text_files, word_calls, word_files
+from making import printed_files, random_cases, read_calls, rib_calls, rib_files, sheet_calls, sheet_files, text_files
+from making import word_calls, word_files
 
 CRATES = pathlib.Path(__file__).resolve().parent.parent / "crates"
 SETS = [face_files, list_files, fit_files, text_files, printed_files, rib_files]
+OTHERS = [arenas, read_calls, word_files, height_files, sheet_files]
 
-# How many pseudo-random cases are stored, those of the catalogue call and of the reading call too, and where a row of
-# them starts.
+# How many pseudo-random cases are stored, those of the catalogue call, of the reading call and of the sheet call too, and
+# where a row of them starts.
 RANDOM = 240
 RANDOM_HEIGHTS = 300
 RANDOM_READINGS = 300
+RANDOM_SHEETS = 200
 SEED = 7
 
 # The most bytes of output that `rt try` takes, which tools/try_edits.py runs.
@@ -39,7 +44,7 @@ MOST = 1_048_576
 
 
 def faults():
-    return [fault for module in SETS + [arenas, read_calls, word_files, height_files] for fault in module.faults()]
+    return [fault for module in SETS + OTHERS for fault in module.faults()]
 
 
 def names():
@@ -81,10 +86,12 @@ def all_cases():
     by_chance = random_cases.stored(RANDOM, SEED, random_cases.OF_CASES)
     heights_by_chance = random_cases.stored(RANDOM_HEIGHTS, SEED, random_cases.OF_HEIGHTS)
     readings_by_chance = random_cases.stored(RANDOM_READINGS, SEED, random_cases.OF_LOW)
+    sheets_by_chance = random_cases.stored(RANDOM_SHEETS, SEED, random_cases.OF_SHEET)
     return {
         "cases": file_cases() + word_calls.cases() + by_chance,
         "cases_heights": height_calls.cases() + heights_by_chance,
         "cases_low": arenas.cases() + read_calls.cases() + readings_by_chance,
+        "cases_sheet": sheet_calls.cases() + sheets_by_chance,
     }
 
 

@@ -1,11 +1,12 @@
 #!/bin/bash
-# Tries the program faces and tools/faces.sh where reading and writing go wrong: bash tools/test_faces.sh
+# Tries the programs faces and material and tools/faces.sh where reading and writing go wrong: bash tools/test_faces.sh
 #
 # It says of each case whether it passed. Its last line is 'N passed, M failed', and it exits 1 where M is not 0. Reads
 # and writes that fail on purpose come from a small C library that it compiles with gcc and loads before C's own.
 root=$(cd "$(dirname "$0")/.." && pwd)
 cd "$root" || exit 1
 [ -x target/bin/faces ] || rt check faces >&2 || exit 1
+[ -x target/bin/material ] || rt check material >&2 || exit 1
 work=$(mktemp -d)
 trap 'rm -rf "$work"' EXIT
 passed=0
@@ -69,7 +70,8 @@ ssize_t write(int fd, const void *bytes, size_t n) {
 C
 gcc -shared -fPIC -o "$work/faults.so" "$work/faults.c" -ldl || exit 1
 
-# The files: document 01's example with its text, the largest face, a file longer than what is read, a refused one.
+# The files: document 01's example with its text and its sheet, the largest face, one of rows and piles, a file longer
+# than what is read, a refused one.
 example=crates/faces/data/example
 cat >"$work/example.text" <<'T'
 faces 3
@@ -80,7 +82,15 @@ best 60 70 4200
 gauge 1 size 1 at 0 0
 gauge 2 size 1 at 40 0
 T
+cat >"$work/example.sheet" <<'T'
+1 40 60 2400
+2 30 50 1500
+used 3900
+blank 300
+face 4200
+T
 largest=crates/faces/stdin
+mixed=crates/material/stdin
 longer=crates/faces_long/stdin
 head -c 20 "$example" >"$work/short"
 echo "refused 5" >"$work/short.text"
@@ -95,7 +105,7 @@ cat "$work/both.text" >>"$work/dash.text"
 # that is -.
 tried() {
     local said=pass
-    F="$work/faults.so" EXAMPLE=$example LARGEST=$largest LONGER=$longer WORK=$work timeout 60 \
+    F="$work/faults.so" EXAMPLE=$example LARGEST=$largest MIXED=$mixed LONGER=$longer WORK=$work timeout 60 \
         bash -c "$5" >"$work/out" 2>"$work/err"
     local status=$?
     [ "$2" = - ] || [ "$status" = "$2" ] || said="fail: status $status"
@@ -114,7 +124,7 @@ faulty='LD_PRELOAD=$F target/bin/faces'
 input='faces: standard input:'
 output='faces: standard output:'
 
-echo "The program:"
+echo "The program faces:"
 tried "document 01's example" 0 "$work/example.text" "" 'target/bin/faces <$EXAMPLE'
 tried "the largest face" 0 crates/faces/stdout "" 'target/bin/faces <$LARGEST'
 tried "a file longer than what is read" 0 crates/faces_long/stdout "" 'target/bin/faces <$LONGER'
@@ -133,6 +143,23 @@ tried "a full disk" - - "$output No space left on device" 'target/bin/faces <$EX
 tried "standard output closed" - - "$output Bad file descriptor" 'target/bin/faces <$EXAMPLE >&-'
 tried "a write in pieces" 0 crates/faces/stdout "" "WRITE_MOST=100 $faulty <\$LARGEST"
 tried "a write that fails after 100 bytes" - - "$output Input/output error" "WRITE_FAILS=100 $faulty <\$LARGEST"
+
+echo "The program material:"
+faulty='LD_PRELOAD=$F target/bin/material'
+input='material: standard input:'
+output='material: standard output:'
+tried "document 01's example" 0 "$work/example.sheet" "" 'target/bin/material <$EXAMPLE'
+tried "a face of 64 gauges" 0 crates/material/stdout "" 'target/bin/material <$MIXED'
+tried "a refused file" 0 "$work/short.text" "" 'target/bin/material <$WORK/short'
+tried "a file longer than what is read" 0 crates/faces_long/stdout "" 'target/bin/material <$LONGER'
+tried "a face byte by byte" 0 crates/material/stdout "" "READ_MOST=1 $faulty <\$MIXED"
+tried "a read that is interrupted" 0 "$work/example.sheet" "" "INTERRUPTS=3 READ_MOST=10 $faulty <\$EXAMPLE"
+tried "standard input closed" - "$work/nothing" "$input Bad file descriptor" 'target/bin/material <&-'
+tried "a read that fails after a whole face" - "$work/nothing" "$input Input/output error" "READ_FAILS=28 $faulty <\$EXAMPLE"
+tried "a read that would fail after 4,096 bytes" 0 crates/faces_long/stdout "" "READ_FAILS=4096 $faulty <\$LONGER"
+tried "a full disk" - - "$output No space left on device" 'target/bin/material <$EXAMPLE >/dev/full'
+tried "a write in pieces" 0 crates/material/stdout "" "WRITE_MOST=100 $faulty <\$MIXED"
+tried "a write that fails after 100 bytes" - - "$output Input/output error" "WRITE_FAILS=100 $faulty <\$MIXED"
 
 echo "tools/faces.sh:"
 run='bash tools/faces.sh'

@@ -4,9 +4,9 @@
     python3 tools/try_edits.py [CRATE/NAME...]
 
 The gate has the prover refuse each of them. Here each that edits code is compiled without a proof (`rt try`) into the
-program `cases`, or `cases_heights` where it is of the catalogue call, or `cases_low` where it is of the reading call,
-which is run on its stored cases; and into the others where that writes what it should. It exits 1 where all do: then a
-stored case is missing.
+program `cases`, or `cases_heights` where it is of the catalogue call, or `cases_low` where it is of the reading call, or
+`cases_sheet` where it is of the sheet call, which is run on its stored cases; and into the others where that writes what
+it should. It exits 1 where all do: then a stored case is missing.
 """
 
 import pathlib
@@ -16,7 +16,7 @@ import sys
 import tempfile
 
 ROOT = pathlib.Path(__file__).resolve().parent.parent
-PROGRAMS = ["cases", "cases_heights", "cases_low"]
+PROGRAMS = ["cases", "cases_heights", "cases_low", "cases_sheet"]
 
 # The program in which an edit of a crate is tried first. Those of the other crates are tried in `cases`.
 FIRST = {
@@ -25,6 +25,9 @@ FIRST = {
     "forwards": "cases_low",
     "holding": "cases_low",
     "maxplus": "cases_low",
+    "materiallines": "cases_sheet",
+    "materialsheet": "cases_sheet",
+    "materialtext": "cases_sheet",
 }
 RIGHT = "ok: the native program at -O3 ended and wrote what is expected"
 

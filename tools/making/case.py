@@ -4,15 +4,16 @@ has the form of both."""
 import dataclasses
 import itertools
 
-from models import catalogue_model, face_model, fit_model, list_model, read_model, text_model, words_model
+from models import catalogue_model, face_model, fit_model, list_model, read_model, sheet_model, text_model, words_model
 
-# The rooms that the program has for a case, an arena or a scratch, an output and a text; and the least of a text that the
-# call takes.
+# The rooms that the program has for a case, an arena or a scratch, an output and a text; and the least rooms for the text
+# of `faces` and for that of `material` which the calls take.
 CASE = 65_536
 LONGER = list_model.WORDS + 16
 OUTPUT = 904
 TEXT = 13_700
 TEXT_LEAST = 13_645
+MATERIAL_LEAST = 2_112
 
 # Room for every face as words, and as a file.
 FACE_WORDS = 1_216
@@ -159,6 +160,25 @@ def text_case(name, file, room):
     """The text of `faces`, in a buffer of so many bytes."""
     text = text_model.text_of(file) if room >= TEXT_LEAST else ""
     return Case(name, given("t", b"", 0, 0, 0, 0, room), "text\n" + text + "rest kept\n")
+
+
+def sheet_case(name, file, levels, rib, height, width, arena, scratch, output):
+    """The sheet call, lent an output of so many bytes."""
+    printed = sheet_model.sheet_call(file, levels, rib, height, width, arena, scratch, output)
+    answer = lines(f"sheet {printed.number} {printed.length}")
+    if printed.number == 0:
+        wanted = answer + printed.text.decode() + lines("rest kept", list_line(printed.walked))
+    elif printed.number == 19:
+        wanted = answer + lines("output kept", list_line(printed.walked))
+    else:
+        wanted = answer + lines(ALL_KEPT)
+    return Case(name, given("m", levels, height, width, arena, scratch, output, rib), wanted)
+
+
+def material_case(name, file, room):
+    """The text of `material`, in a buffer of so many bytes."""
+    text = sheet_model.text_of(file).decode() if room >= MATERIAL_LEAST else ""
+    return Case(name, given("p", b"", 0, 0, 0, 0, room), "text\n" + text + "rest kept\n")
 
 
 def word_bytes(words):

@@ -2,9 +2,10 @@
 
 import random
 
-from making import random_faces, random_heights, random_words
+from making import random_faces, random_heights, random_sheets, random_words
 from making.case import FACE_BYTES, FACE_WORDS, OUTPUT, TEXT, TEXT_LEAST, again_case, file_case, fit_case, gauge_case
-from making.case import levels_case, list_case, saved_case, text_case, widths_case, word_bytes, worded_case
+from making.case import levels_case, list_case, material_case, saved_case, sheet_case, text_case, widths_case, word_bytes
+from making.case import worded_case
 from making.random_arenas import make_low, make_read, some_rib
 from models import face_model, fit_model, list_model, words_model
 
@@ -91,6 +92,21 @@ def some_fit(rng, name, file):
     return fit_case(name, file, levels, rib, height, width, words_lent(rng), words_lent(rng), output)
 
 
+def some_sheet(rng, name, file):
+    """The sheet call."""
+    gauges, sizes = counts(file)
+    rib = some_rib(rng)
+    height, width = opening(rng, file, rib)
+    output = random_sheets.some_room(rng, gauges)
+    levels = some_levels(rng, file, sizes)
+    return sheet_case(name, file, levels, rib, height, width, words_lent(rng), words_lent(rng), output)
+
+
+def some_material(rng, name, file):
+    """The text of `material`."""
+    return material_case(name, file, random_sheets.material_room(rng))
+
+
 def some_widths(rng, name, file):
     """The catalogue call. Of a file or a rib that is refused the heights are near any."""
     _, sizes = counts(file)
@@ -142,6 +158,16 @@ def make_list(rng, name):
 def make_fit(rng, name):
     file = random_faces.any_file(rng, 0.9)
     return [file_case(name, file), some_fit(rng, f"{name}, call", file)]
+
+
+def make_sheet(rng, name):
+    file = random_faces.any_file(rng, 0.9)
+    return [file_case(name, file), some_sheet(rng, f"{name}, call", file)]
+
+
+def make_material(rng, name):
+    file = random_faces.any_file(rng, 0.7)
+    return [file_case(name, file), some_material(rng, f"{name}, call", file)]
 
 
 def make_widths(rng, name):
@@ -197,12 +223,15 @@ MAKERS = {
     "words": (make_words, 2),
     "again": (make_again, 1),
     "widths": (make_widths, 5),
+    "sheet": (make_sheet, 6),
+    "material": (make_material, 1),
 }
 
-# The calls that are stored for the program `cases_heights`, for `cases_low`, and for `cases`.
+# The calls that are stored for the program `cases_heights`, for `cases_low`, for `cases_sheet`, and for `cases`.
 OF_HEIGHTS = ["widths"]
 OF_LOW = ["read", "low"]
-OF_CASES = [call for call in MAKERS if call not in OF_HEIGHTS + OF_LOW]
+OF_SHEET = ["sheet", "material"]
+OF_CASES = [call for call in MAKERS if call not in OF_HEIGHTS + OF_LOW + OF_SHEET]
 
 
 def made(rng, name, calls=MAKERS):

@@ -5,6 +5,8 @@ use crate::lending::lend;
 use cases_line::number::Numbers;
 use cases_listing::call_read;
 use cases_listing::call_words;
+use cases_material::call_material;
+use cases_material::call_sheet;
 use cases_saving::call_again;
 use cases_saving::call_saved;
 use cases_saving::call_worded;
@@ -54,6 +56,8 @@ fn call_arena(letter: u8, text: &[u8], file: &[u8], levels: &[u8], numbers: Numb
         lend(letter, text, file, levels, numbers);
     } else if letter == b'r' || letter == b'b' {
         call_read(letter == b'b', text, file, levels, numbers);
+    } else if letter == b'm' {
+        call_sheet(file, levels, numbers);
     } else {
         call_words(file, levels, numbers.rib, at_most(numbers.arena, WORDS));
     }
@@ -68,6 +72,8 @@ pub fn call(letter: u8, text: &[u8], file: &[u8], levels: &mut [u8], numbers: Nu
         call_gauge(file, numbers.height);
     } else if letter == b't' {
         call_text(file, at_most(numbers.output, TEXT));
+    } else if letter == b'p' {
+        call_material(file, at_most(numbers.output, TEXT));
     } else if is_saving(letter) {
         call_saving(letter, file, numbers.output);
     } else {

@@ -21,7 +21,9 @@
 //     f   the fit call
 //     v   the levels call, lent LEVELS as its buffer
 //     g   the gauge-bytes call, of gauge HEIGHT
+//     m   the sheet call, lent an output of OUTPUT bytes, at most 13,700
 //     t   the text of `faces`, in a buffer of OUTPUT bytes, at most 13,700
+//     p   the text of `material`, in the same way
 //     r   the reading call, of place WIDTH, on the first ARENA words of an arena that is made so: each word is HEIGHT;
 //         then the list call is made on the file, LEVELS and RIB, which leaves the arena where it refuses them; then
 //         words are replaced. After RIB come numbers with a sign before each: @I goes to word I, and a blank and a number
@@ -42,11 +44,15 @@
 // back word of a record on it, or of the head, is not right, and `but low` where the reading call gives something else from
 // the low end than from the top.
 //
-// The byte buffer of `s` has 170 in each byte before the call. `s` prints the number and the length; where the call is
-// taken, the file in hexadecimal and whether the bytes after it are as they were, and then the file read to words again:
-// number, count, and how many of the words that it was written from are not the same. `w` prints the number and the count,
-// and the output as above. `a` prints the number and the count of the words, and where the file is taken the number and the
-// length of the one that is written again, and how many bytes of the given one are not the same in it.
+// A byte buffer has 170 in each byte before a call. `t` and `p` print the text, and whether the bytes after it are as they
+// were. `m` prints the number and the length; where the call is taken the text in the same way, and the arena's list as
+// above; at 19 whether the output is as it was, and the list; and of any other refusal whether each buffer is.
+//
+// `s` prints the number and the length; where the call is taken, the file in hexadecimal and whether the bytes after it are
+// as they were, and then the file read to words again: number, count, and how many of the words that it was written from
+// are not the same. `w` prints the number and the count, and the output as above. `a` prints the number and the count of
+// the words, and where the file is taken the number and the length of the one that is written again, and how many bytes of
+// the given one are not the same in it.
 mod calls;
 mod case;
 mod cataloguing;
