@@ -1,5 +1,5 @@
-// The proved calls, as rattle.rt.txt and catalogue.rt.txt export them. A slice is lent to Rattle as its pointer and its
-// length.
+// The proved calls, as rattle.rt.txt, catalogue.rt.txt and sheet.rt.txt export them. A slice is lent to Rattle as its
+// pointer and its length.
 #ifndef RATTLE_H
 #define RATTLE_H
 
@@ -27,6 +27,11 @@ size_t rattle_walk(uint32_t *list, size_t list_words, size_t items, const uint32
 uint32_t rattle_fit(const uint8_t *file, size_t file_bytes, const uint8_t *levels, size_t level_bytes, uint32_t rib,
                     uint32_t height, uint32_t width, uint32_t *arena, size_t arena_words, uint32_t *scratch,
                     size_t scratch_words, uint32_t *output, size_t output_words);
+
+// Gives as its answer the number and the length of the text.
+void rattle_sheet(const uint8_t *file, size_t file_bytes, const uint8_t *levels, size_t level_bytes, uint32_t rib,
+                  uint32_t height, uint32_t width, uint32_t *arena, size_t arena_words, uint32_t *scratch,
+                  size_t scratch_words, uint8_t *output, size_t output_bytes, uint32_t answer[2]);
 
 // Answers with the kind of the face's last entry.
 uint8_t rattle_build(const uint8_t *file, size_t file_bytes, const uint8_t *levels, size_t level_bytes, uint32_t rib,

@@ -8,9 +8,9 @@
 # It needs x86-64, the Rattle kit (rt), gcc, valgrind and python3. Where the crates are proved (`rt check`) it takes
 # under three minutes on two cores. A first run on a fresh clone also proves them.
 #
-# bench/rattle.rt.txt makes a static library of the proved calls, bench/catalogue.rt.txt one of the catalogue call, and
-# each C program of bench/ links one of them, once compiled by gcc and once by the kit's clang. callgrind counts what is
-# executed inside each function, so the counts are the same on every run.
+# bench/rattle.rt.txt makes a static library of the proved calls, bench/catalogue.rt.txt one of the catalogue call and
+# bench/sheet.rt.txt one of the sheet call. Each C program of bench/ links one of them, once compiled by gcc and once by
+# the kit's clang. callgrind counts what is executed inside each function, so the counts are the same on every run.
 set -euo pipefail
 cd "$(dirname "$0")/.."
 SECONDS=0
@@ -29,6 +29,7 @@ filled='row-of-64 pile-of-64 balanced-64 row-of-64-repeated mixed-64-repeated
 walked='row-of-64 pile-of-64 balanced-64 mixed-64 lopsided-64 alternating-64-many mixed-64-repeated lopsided-of-8'
 heights=256
 fewer_heights='1 4 16 64'
+sheeted=$walked
 saved='row-of-64 mixed-64 balanced-64 mixed-64-repeated lopsided-of-8'
 rib=20
 page=docs/BENCHMARKS.md
@@ -39,16 +40,16 @@ by_clang="clang $("$clang" -dumpversion | cut -d. -f1)"
 work=$(mktemp -d)
 trap 'rm -rf "$work"' EXIT
 
-# Runs a command, and shows what it said only where it fails.
-quietly() { # COMMAND WORD...
-    "$@" >"$work/said" 2>&1 || { tail -n 20 "$work/said" >&2; exit 1; }
+# Runs a command. What it says goes to a file, and is shown only where the command fails.
+quietly() { # FILE COMMAND WORD...
+    "${@:2}" >"$work/$1" 2>&1 || { tail -n 20 "$work/$1" >&2; exit 1; }
 }
 
 # ---- the programs
 
 # Proves the crates and makes copies of them in a temporary folder. What target/ has proved is not proved again.
 copy_crates() {
-    quietly rt check fit catalogue saving faces
+    quietly said rt check fit catalogue materialsheet saving faces
     mkdir -p "$work/target"
     cp -R crates crates.txt "$work"
     cp -R target/rlib target/stamp "$work/target"
@@ -59,7 +60,7 @@ make_library() { # NAME FILE DEP...
     mkdir -p "$work/crates/$1/src"
     cp "$2" "$work/crates/$1/src/lib.rt"
     echo "$1: ${*:3}" >>"$work/crates.txt"
-    (cd "$work" && quietly rt staticlib "$1")
+    (cd "$work" && quietly said rt staticlib "$1")
 }
 
 # Links the levels call alone, without the C library.
@@ -107,16 +108,16 @@ growing() {
 
 # Runs a program under callgrind, in an empty environment. NAME.counts has the instructions inside each function.
 count() { # NAME PROGRAM WORD...
-    env -i valgrind --tool=callgrind --log-file=/dev/null --callgrind-out-file="$work/profile" "${@:2}" &&
-        callgrind_annotate --inclusive=yes --threshold=100 "$work/profile" >"$work/$1.counts"
+    env -i valgrind --tool=callgrind --log-file=/dev/null --callgrind-out-file="$work/$1.profile" "${@:2}" &&
+        callgrind_annotate --inclusive=yes --threshold=100 "$work/$1.profile" >"$work/$1.counts" &&
+        rm "$work/$1.profile"
 }
 
-# Counts a program by both compilers: NAME-gcc and NAME-clang. NAME.printed is what it prints.
+# Counts a program by both compilers, on two cores: NAME-gcc and NAME-clang. NAME.printed is what it prints.
 profile() { # NAME PROGRAM WORD...
-    for compiler in gcc clang; do
-        quietly count "$1-$compiler" "$work/$2-$compiler" "${@:3}"
-        mv "$work/said" "$work/$1.printed"
-    done
+    quietly said count "$1-gcc" "$work/$2-gcc" "${@:3}" &
+    (quietly "$1.printed" count "$1-clang" "$work/$2-clang" "${@:3}") || { wait; exit 1; }
+    wait $!
 }
 
 profile_merges() {
@@ -139,6 +140,10 @@ profile_walks() { # HEIGHTS FACE...
     for face in "${@:2}"; do profile "$face-$1" catalogue "$work/$face.fce" "$work/$face.own" "$1"; done
 }
 
+profile_sheets() { # FACE...
+    for face in "$@"; do profile "$face-sheet" sheet "$work/$face.fce" "$work/$face.own"; done
+}
+
 profile_process() {
     count process target/bin/faces <"$work/$read_face.fce" >"$work/process.printed"
 }
@@ -151,6 +156,7 @@ profile_all() {
     profile_ribs $faces
     profile_walks $heights $walked
     for count in $fewer_heights; do profile_walks "$count" $read_face; done
+    profile_sheets $sheeted
     profile_process
 }
 
@@ -345,6 +351,26 @@ catalogue_table() {
     for count in $fewer_heights; do walk_row "$count" $read_face; done
 }
 
+# Prints what the sheet call in C does beside the fit call inside it.
+c_printing() { # NAME
+    echo $(($(inside lines_sheet "$1") - $(inside stored_fit "$1")))
+}
+
+# Printing is the sheet call without the work of the fit call, the own part the sheet call without the build.
+sheet_table() {
+    header face bytes 'sheet, Rattle' 'fit, Rattle' 'printing, Rattle' "${c_names[@]}" \
+        'own part, Rattle' "${c_names[@]}"
+    for face in $sheeted; do
+        name=$face-sheet
+        sheet=$(rattle rattle_sheet $name)
+        fit=$(rattle rattle_fit $name)
+        build=$(rattle rattle_build $name)
+        row $face "$(cat "$work/$name.printed")" "$sheet" "$fit" \
+            "$(beside_c $((sheet - fit)) "$(c_printing $name-gcc)" "$(c_printing $name-clang)")" \
+            "$(beside_c $((sheet - build)) "$(inside lines_sheet $name-gcc)" "$(inside lines_sheet $name-clang)")"
+    done
+}
+
 # Words to a file, and a file to words.
 saving_table() {
     header face bytes words 'write, Rattle' "${c_names[@]}" 'read, Rattle' "${c_names[@]}"
@@ -397,6 +423,7 @@ print_all() {
     with '## The levels call' levels_call_table
     with 'Linked, in bytes:' levels_size_table
     with '## The catalogue call' catalogue_table
+    with '## The sheet call' sheet_table
     with '## Saving a face' saving_table
     with '## The program faces' process_table
     with '## Stack' stack_table
@@ -408,9 +435,11 @@ echo 'Proving the calls and building the programs.' >&2
 copy_crates
 make_library rattle_calls bench/rattle.rt.txt maxplus merging parts levels shapes placing fit saving
 make_library rattle_catalogue bench/catalogue.rt.txt walking catalogue
+make_library rattle_sheet bench/sheet.rt.txt parts placing fit materialsheet
 link_levels
 compile merge rattle_calls merge.c lazy.c plain.c useful.c
 compile catalogue rattle_catalogue catalogue.c walking.c lists.c lazy.c plain.c useful.c face.c
+compile sheet rattle_sheet sheet.c lines.c stored.c plain.c useful.c face.c
 compile calls rattle_calls calls.c lists.c lazy.c plain.c useful.c reading.c stored.c face.c saving.c levels.c
 PYTHONPATH=tools python3 -B -m making.bench_faces "$work" $faces $(growing) $printed
 profile_all
