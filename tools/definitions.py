@@ -28,7 +28,9 @@ CALLS = [
     ("shapes/src/listing.rt", "list"),
     ("catalogue/src/cataloguing.rt", "widths"),
     ("fit/src/fitting.rt", "fit"),
+    ("materialsheet/src/printing.rt", "sheet"),
     ("report/src/face.rt", "faces_text"),
+    ("materialtext/src/face.rt", "material_text"),
     ("saving/src/write.rt", "write_file"),
     ("saving/src/read.rt", "read_words"),
 ]
@@ -68,6 +70,11 @@ THEOREMS = [
     ("maxplus/proofs/LowEnd.antt", "low-is-top"),
     ("maxplus/proofs/LowEnd.antt", "last-is-first"),
     ("maxplus/proofs/LowEnd.antt", "first-is-last"),
+    ("covering/proofs/Covering.antt", "used-and-blank"),
+    ("covering/proofs/Covering.antt", "rib-across"),
+    ("covering/proofs/Covering.antt", "rib-upward"),
+    ("materialsheet/proofs/SheetMeans.antt", "sheet-room"),
+    ("materialsheet/proofs/SheetMeans.antt", "sheet-means"),
 ]
 
 IMPORT = re.compile(r"^(?:ghost |pub )*use Rattle·(\w+)(?:·\w+)?\.(specs|proofs)\.((?:inside\.)?\w+)\.\{([^}]*)\}", re.M)
