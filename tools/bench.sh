@@ -86,14 +86,15 @@ run_compiler() { # COMPILER WORD...
 }
 
 # Compiles a program of files of bench/ by both compilers, with a library of exported calls. gcc links it: with -z now the
-# dynamic linker's work is done before the program starts.
+# dynamic linker's work is done before the program starts. Both programs have names of one length, NAME-gcc and NAME-cla:
+# where the stack begins hangs on the name, and on that what the C library takes to clear a buffer there.
 compile() { # PROGRAM LIBRARY FILE...
     for compiler in gcc clang; do
         mkdir -p "$work/$1-$compiler.objects"
         for file in "${@:3}"; do
             run_compiler $compiler -c -o "$work/$1-$compiler.objects/$file.o" "bench/$file"
         done
-        gcc -Wl,-z,now -o "$work/$1-$compiler" "$work/$1-$compiler.objects"/*.o "$work/target/staticlib/lib$2.a"
+        gcc -Wl,-z,now -o "$work/$1-${compiler:0:3}" "$work/$1-$compiler.objects"/*.o "$work/target/staticlib/lib$2.a"
     done
 }
 
@@ -116,7 +117,7 @@ count() { # NAME PROGRAM WORD...
 # Counts a program by both compilers, on two cores: NAME-gcc and NAME-clang. NAME.printed is what it prints.
 profile() { # NAME PROGRAM WORD...
     quietly said count "$1-gcc" "$work/$2-gcc" "${@:3}" &
-    (quietly "$1.printed" count "$1-clang" "$work/$2-clang" "${@:3}") || { wait; exit 1; }
+    (quietly "$1.printed" count "$1-clang" "$work/$2-cla" "${@:3}") || { wait; exit 1; }
     wait $!
 }
 
