@@ -30,7 +30,7 @@ module _ (face : Answer Tree) (asks : Tree → Asked) where
   call-refused P by-face by-asks =
       next-refused P face (λ t. also (asks t) (taken t)) by-face (λ t. also-refused P (asks t) (taken t) (by-asks t) tt)
 
-  -- What is promised by the answer of a call's checks, and kept of every check that refuses it by an answer of its number alone, is kept of a refusal.
+  -- What a call leaves by the answer of its checks: where a refusal by any check leaves it, answering that check's number alone, the refusal of this call does.
   pub refusal-kept : {A : Type 0} (Left : Answer Tree → A → Type 0) (none : ℕ → A) → ((c : Check) → Left (refused c) (none (numberOf c))) → (n : ℕ) → (c : Check) × (callOn face asks ≡ refused c) × (n ≡ numberOf c) → (r : A) → r ≡ none n → Left (callOn face asks) r
   refusal-kept {A} Left none kept n bad r made =
       subst (λ (a : Answer Tree). Left a r) (sym (bad .1))
