@@ -43,7 +43,7 @@ sheet-by-area rib t o z fits =
     ap (sheetText (sizesIn t (place rib t z 0 0)) (blank t (place rib t z 0 0))) (ap₂ _*_ (fits .own-height) (fits .own-width))
 
 -- What a face's placing wrote, where it answers 0.
-pub record Sheeted (file : List ℕ) (gauges rib : ℕ) (t : Tree) (o : Outline) (face : Fitted) (layout : List ℕ) (z : Item) : Type 0 where
+pub record Sheeted (gauges rib : ℕ) (t : Tree) (o : Outline) (face : Fitted) (layout : List ℕ) (z : Item) : Type 0 where
   pub pick : smallest o (shapes rib t) ≡ picked z
   pub fits : FaceFits rib t o z
   pub area-is : face .area ≡ area z
@@ -88,7 +88,7 @@ module _ (file : List ℕ) (gauges rib : ℕ) (scratch output : List ℕ) (p : P
     sheet-none other r made = of-all o r output (none-found (smallest o (shapes rib t)) refl (own .answer) other r made)
 
     module _ (zero : face .number ≡ 0) where
-      found : (pick : Pick) → smallest o (shapes rib t) ≡ pick → FitMeans rib t o pick → face ≡ faceFound rib t pick → layout ≡ faceWords rib t pick room → (z : Item) × Sheeted file gauges rib t o face layout z
+      found : (pick : Pick) → smallest o (shapes rib t) ≡ pick → FitMeans rib t o pick → face ≡ faceFound rib t pick → layout ≡ faceWords rib t pick room → (z : Item) × Sheeted gauges rib t o face layout z
       found nothing e means f w = absurd (let n = ap (λ (x : Fitted). x .number) f in omega arith)
       found (picked z) e means f w =
           let long = words-length t (place rib t z 0 0) in
@@ -102,7 +102,7 @@ module _ (file : List ℕ) (gauges rib : ℕ) (scratch output : List ℕ) (p : P
             },
           )
 
-      sheeted : (z : Item) × Sheeted file gauges rib t o face layout z
+      sheeted : (z : Item) × Sheeted gauges rib t o face layout z
       sheeted = found (smallest o (shapes rib t)) refl (demand-3 rib t (known .good) o) (own .answer) (own .written)
 
       abbrev z : Item

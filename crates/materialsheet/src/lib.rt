@@ -3,7 +3,6 @@ mod face;
 mod printing;
 
 pub use face::print_face;
-pub use face::refused;
 pub use printing::sheet;
 
 // What the sheet call answers: the number, and the length of the text, which is 0 where the number is not.
