@@ -5,6 +5,7 @@ use mathlib.Core.List.{List}
 use Prim.Native.Nat.{ℕ, _+_, _*_, _^_, _≤_, _<_}
 use native.Mathlib.Omega.{arith}
 use lib.ListN.{length, take}
+use Rattle.checks.specs.Limits.{mostRib}
 use Rattle.checks.proofs.Answers.{same-taken}
 use Rattle.text.specs.Printing.{Printed as TextPrinted}
 use Rattle.slicing.specs.Item.{Item}
@@ -56,11 +57,11 @@ module _ (file : List ℕ) (gauges rib : ℕ) (scratch output : List ℕ) (p : P
   known : TakenFace file t
   known = face-taken file t (p .face)
 
-  -- What `place_face` asks, with room for 64 gauges.
-  pub sheet-places : (room : List ℕ) → 320 ≡ length room → Placeable file rib scratch room
-  sheet-places room long =
+  -- What `place_face` asks, with any rib and room for 64 gauges.
+  pub sheet-places : (gap : ℕ) → gap ≤ mostRib → (room : List ℕ) → 320 ≡ length room → Placeable file gap scratch room
+  sheet-places gap narrow room long =
       let few = known .few in
-      record { tree = t; face = p .face; narrow = p .narrow; long = p .long; room = omega arith }
+      record { tree = t; face = p .face; narrow = narrow; long = p .long; room = omega arith }
 
   pub words-fit : 5 * gauges ≤ 320
   words-fit = omega (arith, known .few, p .counted)

@@ -48,10 +48,10 @@ shared-slice-read-used-2 : tie.Need-shared-slice-read-used-2 Inv-loop μ-loop
 shared-slice-read-used-2 c = search needs
 
 mul-used-5 : tie.Need-mul-used-5 Inv-loop μ-loop
-mul-used-5 c = search (needs, areas-area)
+mul-used-5 c = record { fits = areas-area _ _ _ (c .before .before .before .loop .inv) (omega arith) }
 
 add-used-3 : tie.Need-add-used-3 Inv-loop μ-loop
-add-used-3 c = search (needs, areas-used)
+add-used-3 c = record { fits = areas-used _ _ _ (c .before .before .before .loop .inv) (omega arith) }
 
 add-k : tie.Need-add-k Inv-loop μ-loop
 add-k c = search needs
@@ -60,7 +60,7 @@ loop-less : tie.Need-loop-less Inv-loop μ-loop
 loop-less c = search needs
 
 loop-again : tie.Need-loop-again Inv-loop μ-loop
-loop-again c = search (needs, areas-more)
+loop-again c = areas-more _ _ _ (c .before .before .before .loop .inv) (omega arith)
 
 returns : tie.Need-returns Inv-loop μ-loop
 returns c = areas-done _ _ _ (c .before .loop .inv) (c .loop-test .left)

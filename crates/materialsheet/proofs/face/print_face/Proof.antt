@@ -18,7 +18,7 @@ place-face-requires : tie.Need-place-face-requires
 place-face-requires c κs =
     let at-layout-room = c .before .before in
     let entry = at-layout-room .before .before .before .before in
-    sheet-places _ _ _ _ _ (entry .pre) _ (slice-aggregate-place-face c)
+    sheet-places _ _ _ _ _ (entry .pre) _ (omega (arith, entry .pre .narrow)) _ (slice-aggregate-place-face c)
 
 refused-requires : tie.Need-refused-requires
 refused-requires c κs = search needs
