@@ -5,12 +5,13 @@
 
 compares two commits of this repository: REV, the landing before, and NEW, which is HEAD where it is not given. It says
 
-- which definitions of specs/ were changed, added, taken out, or only moved to another file. Their comments and `use`
-  lines do not count;
+- which definitions of specs/ were changed, taken out, or only moved to another file, and how many were added in which
+  crates. Their comments and `use` lines do not count;
 - which contracts of the public calls, those of CALLS in definitions.py, have another text;
 - how many lines of proofs/ were changed, added and taken out. A file that git takes for a moved one (`git diff -M`) is
   compared with what it was before;
-- how many files stayed byte for byte, and the lines of each crate before and after.
+- how many files stayed byte for byte, and the lines before and after of each crate of which a file of src/, specs/ or
+  proofs/ changed. Those as they were are one row.
 """
 
 import ast
@@ -131,10 +132,16 @@ def names(keys):
     return ", ".join(f"`{name}`" for name in sorted({name for _, name in keys})) or "none"
 
 
+def crates_of(keys):
+    """The crates in which definitions stand, each with how many."""
+    count = collections.Counter(kind_of(path)[0] for path, _ in keys)
+    return "in " + ", ".join(f"`{crate}` ({count[crate]})" for crate in sorted(count)) if count else "none"
+
+
 def definition_table(old, new):
-    text = row("definitions of `specs/`", "number", "names") + row("---", "---", "---")
+    text = row("definitions of `specs/`", "number", "which") + row("---", "---", "---")
     for what, keys in compared(all_definitions(old), all_definitions(new)).items():
-        text += row(what, len(keys), names(keys))
+        text += row(what, len(keys), crates_of(keys) if what == "added" else names(keys))
     return text
 
 
@@ -171,18 +178,35 @@ def file_table(old, new):
     return text
 
 
+def by_crate(files):
+    """The files of src/, specs/ and proofs/, by their crates and then by their paths."""
+    crates = collections.defaultdict(dict)
+    for path in files:
+        if kind_of(path):
+            crates[kind_of(path)[0]][path] = files[path]
+    return crates
+
+
+def crate_row(name, before, after, crates):
+    """The lines of some crates together, of each kind, before and after."""
+    counts = [
+        sum(lines(sources(files.get(crate, {}), kind).values()) for crate in crates)
+        for kind in KINDS
+        for files in [before, after]
+    ]
+    return row(name, *counts)
+
+
 def crate_table(old, new):
-    count = collections.Counter()
-    for when, files in enumerate([old, new]):
-        for path in files:
-            if kind_of(path):
-                count[when, *kind_of(path)] += lines([files[path].decode()])
-    crates = sorted({crate for _, crate, _ in count})
+    before, after = by_crate(old), by_crate(new)
+    crates = sorted({*before, *after})
+    changed = [crate for crate in crates if before.get(crate) != after.get(crate)]
+    same = [crate for crate in crates if crate not in changed]
     text = row("lines", *[f"`{kind}/` {when}" for kind in KINDS for when in ["before", "after"]]) + row(*["---"] * 7)
-    for crate in crates:
-        text += row(f"`{crate}`", *[count[when, crate, kind] for kind in KINDS for when in range(2)])
-    totals = [sum(count[when, crate, kind] for crate in crates) for kind in KINDS for when in range(2)]
-    return text + row(f"{len(crates)} crates", *totals)
+    for crate in changed:
+        text += crate_row(f"`{crate}`", before, after, [crate])
+    text += crate_row(f"the {len(same)} others", before, after, same)
+    return text + crate_row(f"{len(before)} crates before, {len(after)} after", before, after, crates)
 
 
 def main():
