@@ -1,7 +1,7 @@
 -- Whether each level is 1 to 8, as the code finds it, level by level.
 -- The levels passed so far and those left after them decide together as all do.
 use mathlib.Core.Path.{_≡_, refl, sym, ap, _∙_}
-use mathlib.Core.Bool.{Bool, true, false, _&&_, and-true, and-false, and-assoc, and-eq-true-iff}
+use mathlib.Core.Bool.{Bool, true, _&&_, and-true, and-assoc, and-eq-true-iff}
 use mathlib.Core.List.{List, [], _∷_}
 use Prim.Native.Nat.{ℕ, zero, suc, _+_, _≤_, _<_}
 use native.Mathlib.Numerals.{add-one}
@@ -12,16 +12,13 @@ use lib.Seq.{drop-cons}
 use borrow.Author.Tests.{leb-true, le-leb, lt-leb}
 use Rattle.lent.specs.Questions.{levelsInRange}
 
--- The ways out of the test of one level.
+-- The ways out of the test of one level: those before it were in range, and it is not too low; or it is; or those were not.
 module _ (before : Bool) (l : ℕ) where
-  pub also-low : l < 1 → false ≡ (before && (leb 1 l && leb l 8))
-  also-low low = sym (and-false before) ∙ simp (lt-leb 1 l low)
+  pub also-second : before ≡ true → 1 ≤ l → leb l 8 ≡ (before && (leb 1 l && leb l 8))
+  also-second e some = simp (e, le-leb 1 l some)
 
-  pub also-high : 1 ≤ l → 8 < l → false ≡ (before && (leb 1 l && leb l 8))
-  also-high some high = sym (and-false before) ∙ simp (le-leb 1 l some, lt-leb l 8 high)
-
-  pub also-fine : 1 ≤ l → l ≤ 8 → before ≡ (before && (leb 1 l && leb l 8))
-  also-fine some most = sym (and-true before) ∙ simp (le-leb 1 l some, le-leb l 8 most)
+  pub also-low : before ≡ true → l < 1 → leb 1 l ≡ (before && (leb 1 l && leb l 8))
+  also-low e low = simp (e, lt-leb 1 l low)
 
 -- What the loop over the levels keeps: the first i and those left decide.
 pub record Checked (levels : List ℕ) (fine : Bool) (i : ℕ) : Type 0 where

@@ -1,7 +1,6 @@
 // Checks 14 and 15.
 ghost use mathlib.Core.Path.{_≡_};
 ghost use mathlib.Core.Bool.{_&&_};
-ghost use Prim.Native.Nat.{_≤_};
 ghost use lib.Dec.{leb};
 ghost use Rattle.checks.specs.Answer.{number};
 ghost use Rattle.lent.specs.Questions.{levelCount, levelsInRange, levelRange, levelsLent};
@@ -20,13 +19,7 @@ pub fn level_count_number(n: usize, levels: usize) -> u32
 fn also_in_range(before: bool, level: u8) -> bool
     ensures { λ r. ⌜ r ≡ (before && (leb 1 level && leb level 8)) ⌝ }
 {
-    if level < 1 {
-        return false;
-    }
-    if 8 < level {
-        return false;
-    }
-    before
+    before && (1 <= level && level <= 8)
 }
 
 // Whether each level is 1 to 8. With no way out before the last level, the machine compares many at once.
