@@ -81,11 +81,10 @@ module _ (a : List ℕ) (h : ℕ) (old out sums : List ℕ) (next at : ℕ) (w :
       let place = s .place in
       omega arith)
 
-  pub widths-room : at - 2 + 2 ≤ length out
-  widths-room =
+  pub widths-inside : at ≤ length out
+  widths-inside =
       let long = w .state .long in
       let room = w .state .room in
-      let two = widths-two in
       omega arith
 
   -- The words left behind the record that is stored.
@@ -94,7 +93,7 @@ module _ (a : List ℕ) (h : ℕ) (old out sums : List ℕ) (next at : ℕ) (w :
       let ws = turnedWords a (after a f r) qs in
       let many : length ws ≡ 2 * length qs = turned-length a (after a f r) qs in
       let here : at - 2 ≡ length ws = omega arith in
-      let room = widths-room in
+      let room = widths-inside in
       ap (λ (i : ℕ). writtenOver ws (itemAt out i x y)) here
       ∙ over-more ws out x y (omega arith)
       ∙ ap₂ (λ (u : ℕ) (v : ℕ). writtenOver (ws ++ (u ∷ v ∷ [])) out) x-is y-is

@@ -1,10 +1,11 @@
 -- `writing::write::write_by_width` meets its contract.
 -- The loop keeps `Widths`, that the items left, turned and written before the place reached, give what all give; the measure is the number of the records left, counted along the first link.
+use native.Mathlib.Omega.{arith}
 use borrow.Author.Needs.{needs}
 use Rattle.arena.proofs.Walking.{count}
 use Rattle.writing.proofs.ListWalk.{walk-less, walk-has}
 use Rattle.writing.proofs.Heights.{head-enterable}
-use Rattle.writing.proofs.Widths.{Widths, listed-countable, counted-room, widths-start, widths-summable, widths-two, widths-room, widths-more, widths-done}
+use Rattle.writing.proofs.Widths.{Widths, listed-countable, counted-room, widths-start, widths-summable, widths-two, widths-inside, widths-more, widths-done}
 use Rattle.writing.proofs.write.write_by_width.Statement.{statement}
 use Rattle.writing.proofs.write.write_by_width.Tie as tie
 
@@ -53,7 +54,13 @@ sub-at : tie.Need-sub-at Inv-loop μ-loop
 sub-at c = search (needs, widths-two)
 
 write-item-requires : tie.Need-write-item-requires Inv-loop μ-loop
-write-item-requires c κs = search (needs, widths-room)
+write-item-requires c κs =
+    let at-wide = c .before .before .before .before .before in
+    let at-loop-test = at-wide .before in
+    let inv = at-loop-test .before .loop .inv in
+    let two = widths-two _ _ _ _ _ _ _ inv (at-loop-test .loop-test .taken) _ (at-wide .wide .ensures) in
+    let inside = widths-inside _ _ _ _ _ _ _ inv (at-loop-test .loop-test .taken) _ (at-wide .wide .ensures) in
+    omega arith
 
 slice-aggregate-pass : tie.Need-slice-aggregate-pass Inv-loop μ-loop
 slice-aggregate-pass c = search needs
