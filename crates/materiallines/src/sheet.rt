@@ -1,7 +1,7 @@
 // The text of the material sheet, from the start of a buffer.
 ghost use mathlib.Core.Path.{_≡_};
 ghost use mathlib.Core.List.{List};
-ghost use Prim.Native.Nat.{ℕ, _+_, _≤_};
+ghost use Prim.Native.Nat.{ℕ, _+_};
 ghost use lib.ListN.{length};
 ghost use Rattle.text.specs.Printing.{Printed};
 ghost use Rattle.slicing.specs.Item.{Item};

@@ -1,5 +1,4 @@
 // The sheet call.
-ghost use mathlib.Core.Path.{_≡_};
 ghost use Rattle.slicing.specs.Layout.{outline};
 ghost use Rattle.facefile.specs.Format.{faceOf};
 ghost use Rattle.lent.specs.Lent.{lent};

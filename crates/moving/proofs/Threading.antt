@@ -1,6 +1,6 @@
 -- A run that was moved is still moved after the back word of its first record was stored, and the way back along both lists is right then.
 -- No link, no level, no m and no true p reads a back word, and those inside the run and of the rest are as they were.
-use mathlib.Core.Path.{_≡_, sym, ap, subst, _∙_}
+use mathlib.Core.Path.{_≡_, sym, subst, _∙_}
 use mathlib.Core.List.{List, _∷_, _++_}
 use Prim.Native.Nat.{ℕ, _+_, _<_}
 use native.Mathlib.Omega.{arith}
@@ -10,7 +10,6 @@ use Rattle.arena.specs.inside.Chain.{Has, put, All, Away}
 use Rattle.arena.specs.inside.Backs.{Backs, Inner, BacksKept, WayBack, lastOf}
 use Rattle.arena.proofs.PutLaws.{length-put, same-put, same-trans}
 use Rattle.arena.proofs.Frames.{all-map, all-refl, linked-frame, trues-frame}
-use Rattle.arena.proofs.ListLaws.{all-left, all-right}
 use Rattle.arena.proofs.Summing.{suffixes-agree}
 use Rattle.arena.proofs.BackLaws.{run-backs, rest-inner, backs-frame, inner-frame}
 use Rattle.arena.proofs.BackStores.{back-same, back-other, word-stays, shape-stays, value-stays}

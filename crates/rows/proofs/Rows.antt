@@ -406,5 +406,12 @@ rows =
     ∷ []
 
 pub rows-hold : all holds rows ≡ true
-unfolding total sheetOf sheetChecks widthFor seek walked heightsGiven widthAsks saveCall wordCall firstWord wordsFace wordsOf fileOf levelCount levelRange levelsLent ribGiven openingGiven buffersLent outputLent listAsks fitAsks header sizesAfter sizesFrom gaugeSizes gaugeEntry joinParts joinEntry kindEntry entry entries onePart atEnd faceOf merge turn gaugeShapes shapes smallest noTaller indexOf place listWords writtenOver timesFour uncutLevel largestPower topLevel word nextWith lastWith sumFrom trueP held walk linksRight linked falling backsRight lazyList readItem readLow
+unfolding faceOf header sizesAfter sizesFrom gaugeSizes gaugeEntry joinParts joinEntry kindEntry entry entries onePart atEnd
+    levelCount levelRange levelsLent ribGiven openingGiven buffersLent outputLent listAsks fitAsks
+    timesFour uncutLevel largestPower topLevel
+    merge turn gaugeShapes shapes listWords writtenOver smallest noTaller indexOf place
+    word nextWith lastWith sumFrom trueP held walk linksRight linked falling backsRight lazyList readItem readLow
+    saveCall wordCall firstWord wordsFace wordsOf fileOf
+    widthFor seek walked heightsGiven widthAsks
+    total sheetOf sheetChecks
 rows-hold = refl

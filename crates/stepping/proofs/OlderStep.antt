@@ -217,7 +217,10 @@ module _ {gap : ℕ} (t : Task gap) (a b : List ℕ) (ho hn : ℕ) (ends ends' :
         }
 
 -- The function: what it read and what its calls promise.
-module _ (gap : ℕ) (a b : List ℕ) (ho hn v key q : ℕ) (ends ends' : List ℕ) (e : v ≡ word a hn 3) (k : key ≡ word a v 1) (f : q ≡ pUnder a (adjust a hn) v + gap) (move : RunMoved a b ho key q ends ends') (c newers newers' : List ℕ) (t : DroppedTied b c hn v (getD ends' 0 0) key newers newers') where
+module _
+    (gap : ℕ) (a b : List ℕ) (ho hn v key q : ℕ) (ends ends' : List ℕ)
+    (e : v ≡ word a hn 3) (k : key ≡ word a v 1) (f : q ≡ pUnder a (adjust a hn) v + gap) (move : RunMoved a b ho key q ends ends')
+    (c newers newers' : List ℕ) (t : DroppedTied b c hn v (getD ends' 0 0) key newers newers') where
   abbrev Tie : Type 0
   Tie = mWord b (getD ends' 0 0) ≡ key
 

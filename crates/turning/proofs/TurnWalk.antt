@@ -38,7 +38,9 @@ module _ (a : List ℕ) (from to : ℕ) (rs b : List ℕ) (t : Turnable a from t
   pub cleared-enterable : (sums : List ℕ) → length sums ≡ 9 → getD sums 8 0 ≡ 0 → Enterable b from sums
   cleared-enterable sums e none = record { has = linked-cleared .has; nine = e; none = none }
 
--- The arena a is that with the new head cleared. Of its list rs of the old head the records qs are left, and the words hold the sums f that lead to them. The new head's first forward is `last`, beside the arena b, so that its list is that of the arena with `last` stored. The first of rs is `first`, so that it will be the last of the new list.
+-- The arena a is that with the new head cleared. Of its list rs of the old head the records qs are left, and the words hold the sums f that lead to them.
+-- The new head's first forward is `last`, beside the arena b, so that its list is that of the arena with `last` stored.
+-- The first of rs is `first`, so that it will be the last of the new list.
 pub record Turning (a : List ℕ) (from to first : ℕ) (b : List ℕ) (last : ℕ) (sums : List ℕ) (next : ℕ) : Type 0 where
   pub rs : List ℕ
   pub linked : Linked a from rs
