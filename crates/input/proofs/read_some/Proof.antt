@@ -1,12 +1,12 @@
--- `filter::input::read_some` is safe and ends.
+-- `input::read_some` is safe and ends.
 -- A read leaves as many bytes in the buffer, and the measure is how many times one may be begun again.
 use mathlib.Core.Path.{_≡_}
 use native.Mathlib.Omega.{arith}
 use borrow.Author.Needs.{needs}
 use borrow.Author.Tests.{ltb-true}
 use lib.ListN.{length}
-use Rattle.filter.proofs.input.read_some.Statement.{statement}
-use Rattle.filter.proofs.input.read_some.Tie as tie
+use Rattle.input.proofs.read_some.Statement.{statement}
+use Rattle.input.proofs.read_some.Tie as tie
 
 abbrev Inv-loop : tie.InvT-loop
 Inv-loop room₀ got₀ tries₀ room got tries = length room ≡ length room₀
