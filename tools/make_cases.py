@@ -1,20 +1,18 @@
 #!/usr/bin/env python3
-"""Writes what the gate runs the programs on, and what they must print: of crates/cases, crates/cases_heights,
-crates/cases_low and crates/cases_sheet the stored cases of every call, each with its name; of crates/faces,
-crates/faces_long and crates/material some faces.
+"""Writes what the gate runs the programs on, and what they must print: of crates/cases the stored cases of every call,
+each with its name; of crates/faces, crates/faces_long and crates/material some faces.
 
     python3 tools/make_cases.py            writes them
     python3 tools/make_cases.py --check    writes nothing, and says whether they are as it would write them
 
 tools/making/ has the files: for the reader and the levels (face_files.py), the list call (list_files.py), the fit call
 (fit_files.py), the text of `faces` (text_files.py), all of these in version 2 (printed_files.py), and the list and fit
-calls with ribs (rib_files.py); the calls that are made on each file (calls.py, with ribs rib_calls.py); the arenas of
-the reading call (arenas.py), and those that the list call leaves it (read_calls.py); the words of the writing call
-(word_files.py), with the calls between words and files (word_calls.py); the heights of the catalogue call
-(height_files.py), with the calls on them (height_calls.py); the sheets of the sheet call (sheet_files.py), with the calls
-for them (sheet_calls.py); pseudo-random cases (random_cases.py); and what `faces` and `material` are run on
-(faces_inputs.py). What is expected comes from the models. It stops where they and an answer that was worked out by hand
-differ.
+calls with ribs (rib_files.py); the calls that are made on each file (calls.py, with ribs rib_calls.py); the words of
+the writing call (word_files.py), with the calls between words and files (word_calls.py); the heights of the catalogue
+call (height_files.py), with the calls on them (height_calls.py); the arenas of the reading call (arenas.py), and those
+that the list call leaves it (read_calls.py); the sheets of the sheet call (sheet_files.py), with the calls for them
+(sheet_calls.py); pseudo-random cases (random_cases.py); and what `faces` and `material` are run on (faces_inputs.py).
+What is expected comes from the models. It stops where they and an answer that was worked out by hand differ.
 """
 
 import collections
@@ -30,17 +28,6 @@ from making import word_calls, word_files
 CRATES = pathlib.Path(__file__).resolve().parent.parent / "crates"
 SETS = [face_files, list_files, fit_files, text_files, printed_files, rib_files]
 OTHERS = [arenas, read_calls, word_files, height_files, sheet_files]
-
-# How many pseudo-random cases are stored, those of the catalogue call, of the reading call and of the sheet call too, and
-# where a row of them starts.
-RANDOM = 240
-RANDOM_HEIGHTS = 300
-RANDOM_READINGS = 300
-RANDOM_SHEETS = 200
-SEED = 7
-
-# The most bytes of output that `rt try` takes, which tools/try_edits.py runs.
-MOST = 1_048_576
 
 
 def faults():
@@ -82,17 +69,11 @@ def file_cases():
 
 
 def all_cases():
-    """The cases of each program that runs some, by its crate."""
-    by_chance = random_cases.stored(RANDOM, SEED, random_cases.OF_CASES)
-    heights_by_chance = random_cases.stored(RANDOM_HEIGHTS, SEED, random_cases.OF_HEIGHTS)
-    readings_by_chance = random_cases.stored(RANDOM_READINGS, SEED, random_cases.OF_LOW)
-    sheets_by_chance = random_cases.stored(RANDOM_SHEETS, SEED, random_cases.OF_SHEET)
-    return {
-        "cases": file_cases() + word_calls.cases() + by_chance,
-        "cases_heights": height_calls.cases() + heights_by_chance,
-        "cases_low": arenas.cases() + read_calls.cases() + readings_by_chance,
-        "cases_sheet": sheet_calls.cases() + sheets_by_chance,
-    }
+    """The cases of every call. One that gives no file is on the last file before it: a module's cases stay in order."""
+    found = file_cases()
+    for module in [word_calls, height_calls, arenas, read_calls, sheet_calls]:
+        found += module.cases()
+    return found + random_cases.stored()
 
 
 def stop_at(faults):
@@ -100,14 +81,13 @@ def stop_at(faults):
         sys.exit("\n".join(faults))
 
 
-def case_files(crate, cases):
-    """The input and the output of a program that runs cases, by their paths below crates/."""
+def case_files(cases):
+    """The input and the output of the program that runs cases, by their paths below crates/."""
     found = collections.Counter(case.name for case in cases)
-    stop_at([f"{name}: two cases of {crate} have this name" for name, times in found.items() if times > 1])
-    output = "".join(case.answer() for case in cases).encode()
-    if len(output) > MOST:
-        sys.exit(f"the output of {crate} has more than {MOST} bytes")
-    return {f"{crate}/stdin": "".join(case.line() for case in cases).encode(), f"{crate}/stdout": output}
+    stop_at([f"{name}: two cases have this name" for name, times in found.items() if times > 1])
+    given = "".join(case.line() for case in cases)
+    wanted = "".join(case.answer() for case in cases)
+    return {"cases/stdin": given.encode(), "cases/stdout": wanted.encode()}
 
 
 def has(path, content):
@@ -116,10 +96,10 @@ def has(path, content):
 
 def main():
     stop_at(faults())
-    made = all_cases()
-    written = [case_files(crate, cases) for crate, cases in made.items()] + [faces_inputs.files()]
-    stored = {CRATES / path: content for files in written for path, content in files.items()}
-    what = ", ".join(f"{len(cases)} cases of {crate}" for crate, cases in made.items())
+    cases = all_cases()
+    files = case_files(cases) | faces_inputs.files()
+    stored = {CRATES / path: content for path, content in files.items()}
+    what = f"{len(cases)} cases"
     if "--check" in sys.argv[1:]:
         stop_at([f"{path}: not as this script writes it" for path, content in stored.items() if not has(path, content)])
         print(f"{what}: stored as this script writes them")

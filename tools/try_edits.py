@@ -1,12 +1,12 @@
 #!/usr/bin/env python3
 """Runs the wrong programs of crates/*/must-fail, and says whether the stored cases see that they are wrong.
 
-    python3 tools/try_edits.py [CRATE/NAME...]
+    python3 tools/try_edits.py [CRATE | CRATE/NAME]...
 
-The gate has the prover refuse each of them. Here each that edits code is compiled without a proof (`rt try`) into the
-program `cases`, or `cases_heights` where it is of the catalogue call, or `cases_low` where it is of the reading call, or
-`cases_sheet` where it is of the sheet call, which is run on its stored cases; and into the others where that writes what
-it should. It exits 1 where all do: then a stored case is missing.
+The gate has the prover refuse each of them. Here each that edits code which `cases` reaches is compiled without a proof
+(`rt try`) into that program, which is run on the stored cases, cut into pieces whose output `rt try` takes. The piece
+with the most cases of the edited crate's calls comes first, and the others while the program writes what it should. It
+exits 1 where all pieces come out right: then a stored case is missing.
 """
 
 import pathlib
@@ -15,21 +15,74 @@ import subprocess
 import sys
 import tempfile
 
-ROOT = pathlib.Path(__file__).resolve().parent.parent
-PROGRAMS = ["cases", "cases_heights", "cases_low", "cases_sheet"]
+sys.dont_write_bytecode = True
 
-# The program in which an edit of a crate is tried first. Those of the other crates are tried in `cases`.
-FIRST = {
-    "walking": "cases_heights",
-    "catalogue": "cases_heights",
-    "forwards": "cases_low",
-    "holding": "cases_low",
-    "maxplus": "cases_low",
-    "materiallines": "cases_sheet",
-    "materialsheet": "cases_sheet",
-    "materialtext": "cases_sheet",
+from making import running
+
+ROOT = running.ROOT
+
+# The most bytes of output that `rt try` takes.
+MOST = 1_048_576
+
+# The letters of the calls that a crate is of. The other crates are of many calls, and for them any piece may be first.
+CALLS = {
+    "walking": "c",
+    "catalogue": "c",
+    "forwards": "rb",
+    "holding": "rb",
+    "maxplus": "rb",
+    "materiallines": "mp",
+    "materialsheet": "mp",
+    "materialtext": "mp",
 }
-RIGHT = "ok: the native program at -O3 ended and wrote what is expected"
+
+# The crates that only the programs `faces` and `material` reach. tools/test_faces.sh tries what they do.
+UNREACHED = ["input", "filter"]
+
+NATIVE = "the native program at -O3"
+RIGHT = f"ok: {NATIVE} ended and wrote what is expected"
+
+# ---------------------------------------------------------------------------------------------------------------
+# The stored cases
+
+
+def letter(line):
+    """The letter of a case."""
+    return line.split(": ", 1)[1][0]
+
+
+def files():
+    """Each stored file with the calls on it. A case is its line of the input and its answer."""
+    given = (ROOT / "crates/cases/stdin").read_text().splitlines(keepends=True)
+    answers = running.ANSWER.split((ROOT / "crates/cases/stdout").read_text())[1:]
+    found = []
+    for line, answer in zip(given, answers, strict=True):
+        if letter(line) == "F":
+            found.append([])
+        found[-1].append((line, answer))
+    return found
+
+
+def pieces():
+    """The stored cases in pieces whose output `rt try` takes. A file and the calls on it stay together."""
+    found, size = [[]], 0
+    for cases in files():
+        length = sum(len(answer) for _, answer in cases)
+        if size + length > MOST:
+            found.append([])
+            size = 0
+        found[-1] += cases
+        size += length
+    return found
+
+
+def calls_of(crate, piece):
+    """How many cases of a piece are of the calls that a crate is of."""
+    return sum(letter(line) in CALLS.get(crate, "") for line, _ in piece)
+
+
+# ---------------------------------------------------------------------------------------------------------------
+# Edits
 
 
 def edits(path):
@@ -49,20 +102,26 @@ def applied(text, changes):
     return text
 
 
-def is_right(folder, program):
-    """Whether a program, compiled without a proof, writes what is stored."""
-    done = subprocess.run(["rt", "try", program], cwd=folder, capture_output=True, text=True, timeout=300)
-    return RIGHT in done.stdout
+def is_right(folder, piece):
+    """Whether the program `cases`, compiled without a proof, writes what is stored for a piece."""
+    given, answers = zip(*piece)
+    (folder / "crates/cases/stdin").write_text("".join(given))
+    (folder / "crates/cases/stdout").write_text("".join(answers))
+    done = subprocess.run(["rt", "try", "cases"], cwd=folder, capture_output=True, text=True, timeout=300)
+    said = done.stdout + done.stderr
+    if NATIVE not in said:
+        sys.exit(f"it does not compile: {said[-500:]}")
+    return RIGHT in said
 
 
-def is_seen(folder, crate, edit):
+def is_seen(folder, crate, edit, pieces):
     """Whether the stored cases see an edit."""
     name, changes = edits(edit)
     file = folder / "crates" / crate / name
     right = file.read_text()
     file.write_text(applied(right, changes))
-    programs = sorted(PROGRAMS, key=lambda program: program != FIRST.get(crate, "cases"))
-    seen = not all(is_right(folder, program) for program in programs)
+    best_first = sorted(pieces, key=lambda piece: -calls_of(crate, piece))
+    seen = not all(is_right(folder, piece) for piece in best_first)
     file.write_text(right)
     return seen
 
@@ -73,20 +132,22 @@ def main():
     with tempfile.TemporaryDirectory() as temporary:
         folder = pathlib.Path(temporary) / "repository"
         shutil.copytree(ROOT, folder, ignore=shutil.ignore_patterns("target", ".git"))
-        wrong = [program for program in PROGRAMS if not is_right(folder, program)]
-        if wrong:
-            sys.exit(f"without any edit {' and '.join(wrong)} write something else than is stored")
+        cut = pieces()
+        if not all(is_right(folder, piece) for piece in cut):
+            sys.exit("without any edit the program writes something else than is stored")
         for edit in sorted((ROOT / "crates").glob("*/must-fail/*.edit")):
             crate = edit.parent.parent.name
             label = f"{crate}/{edit.stem}"
-            if (wanted and label not in wanted) or not edits(edit)[0].startswith("src/"):
+            if crate in UNREACHED or not edits(edit)[0].startswith("src/"):
                 continue
-            seen = is_seen(folder, crate, edit)
+            if wanted and not {crate, label} & set(wanted):
+                continue
+            seen = is_seen(folder, crate, edit, cut)
             ran += 1
             unseen += not seen
             print(f"{label}: {'seen' if seen else 'NOT SEEN'}", flush=True)
     print(f"{ran} wrong programs ran, {unseen} not seen")
-    sys.exit(1 if unseen else 0)
+    sys.exit(1 if unseen or not ran else 0)
 
 
 if __name__ == "__main__":

@@ -49,7 +49,7 @@ class HeightCalls:
         self.found.setdefault(name, case)
 
     def cases(self):
-        return [file_case(self.name, self.file)] + list(self.found.values())
+        return [file_case(f"{self.name}, widths", self.file)] + list(self.found.values())
 
 
 # ---------------------------------------------------------------------------------------------------------------
@@ -166,7 +166,7 @@ def refused_calls(name):
     wrong."""
     file = FACES[name]
     return [
-        file_case(name, file),
+        file_case(f"{name}, widths", file),
         widths_case(f"{name}, widths, 1 level", file, [1], 0, [60], WORDS, WORDS, 1),
         widths_case(f"{name}, widths, none", file, [1], 0, [], WORDS, WORDS, 0),
         widths_case(f"{name}, widths, all fail", file, [9, 9], MOST + 1, [0, 1], SHORT, SHORT, 0),

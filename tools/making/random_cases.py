@@ -227,11 +227,15 @@ MAKERS = {
     "material": (make_material, 1),
 }
 
-# The calls that are stored for the program `cases_heights`, for `cases_low`, for `cases_sheet`, and for `cases`.
-OF_HEIGHTS = ["widths"]
-OF_LOW = ["read", "low"]
-OF_SHEET = ["sheet", "material"]
-OF_CASES = [call for call in MAKERS if call not in OF_HEIGHTS + OF_LOW + OF_SHEET]
+# The rows of stored cases by what their names begin with: how many files with a call on each, and of which calls. Each
+# row starts from the same seed.
+STORED = {
+    "random": (240, ["list", "fit", "levels", "gauge", "text", "save", "words", "again"]),
+    "random widths": (300, ["widths"]),
+    "random reading": (300, ["read", "low"]),
+    "random sheet": (200, ["sheet", "material"]),
+}
+SEED = 7
 
 
 def made(rng, name, calls=MAKERS):
@@ -240,6 +244,10 @@ def made(rng, name, calls=MAKERS):
     return rng.choice(drawn)(rng, name)
 
 
-def stored(count, seed, calls):
-    rng = random.Random(seed)
-    return [case for i in range(1, count + 1) for case in made(rng, f"random {i}", calls)]
+def stored():
+    """The cases of all rows."""
+    found = []
+    for row, (count, calls) in STORED.items():
+        rng = random.Random(SEED)
+        found += [case for i in range(1, count + 1) for case in made(rng, f"{row} {i}", calls)]
+    return found

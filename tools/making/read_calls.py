@@ -72,7 +72,7 @@ class ReadCalls:
         self.add("", rib, place, {}, WORDS, top, low)
 
     def cases(self):
-        return [file_case(self.name, self.file)] + self.found
+        return [file_case(f"{self.name}, read", self.file)] + self.found
 
 
 def some_places(count):

@@ -70,7 +70,7 @@ class SheetCalls:
         self.call(opening_word(opening), opening, rib)
 
     def cases(self):
-        return [file_case(self.name, self.file)] + list(self.found.values())
+        return [file_case(f"{self.name}, sheet", self.file)] + list(self.found.values())
 
 
 # ---------------------------------------------------------------------------------------------------------------
@@ -231,5 +231,5 @@ def cases():
     refused |= {stored.name: stored.file for stored in text_files.LONG}
     found = taken_cases()
     for name, file in refused.items():
-        found += [file_case(name, file)] + refused_calls(name, file) + material_calls(name, file)
+        found += [file_case(f"{name}, sheet", file)] + refused_calls(name, file) + material_calls(name, file)
     return found

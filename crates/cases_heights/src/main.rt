@@ -1,4 +1,0 @@
-// `cases` again, for the gate: a program is run on one stored input, and this one on the cases of the catalogue call.
-fn main() {
-    cases_run::run();
-}
