@@ -1,10 +1,11 @@
 #!/usr/bin/env python3
-"""Lists the definitions that a reader has to believe: those that the contracts of the public calls reach, and those
-that the statements of the demands' and the papers' theorems reach beyond them.
+"""Lists the definitions that a reader has to believe: those that the contracts of the public calls reach, those that the
+statements of the demands' and the papers' theorems reach beyond them, and those that the programs' own contracts do.
 
-    python3 tools/definitions.py            prints both tables, file by file with the lines of each
-    python3 tools/definitions.py --check    says whether docs/TRUST.md has them as they are printed, and whether just the
-                                            others stand in specs/inside/
+    python3 tools/definitions.py            prints the three tables, file by file with the lines of each
+    python3 tools/definitions.py --check    says whether docs/TRUST.md has them as they are printed, whether just the
+                                            others stand in specs/inside/, and whether docs/PROVED.md names only what
+                                            stands in the files that it names
 
 It reads the sources as text. A contract reaches the names in its clauses; a name reaches those in its own definition.
 Lines are all lines of a file, its comments and imports too.
@@ -17,7 +18,8 @@ import sys
 
 ROOT = pathlib.Path(__file__).resolve().parent.parent
 CRATES = ROOT / "crates"
-PAGE = ROOT / "docs" / "TRUST.md"
+TRUST = ROOT / "docs" / "TRUST.md"
+PROVED = ROOT / "docs" / "PROVED.md"
 
 CALLS = [
     ("facefile/src/reader.rt", "read"),
@@ -76,6 +78,12 @@ THEOREMS = [
     ("materialsheet/proofs/SheetMeans.antt", "sheet-room"),
     ("materialsheet/proofs/SheetMeans.antt", "sheet-means"),
 ]
+PROGRAMS = [
+    ("input/src/lib.rt", "read_input"),
+    ("input/src/lib.rt", "outcome_of"),
+    ("filter/src/reply.rt", "faces_reply"),
+    ("filter/src/reply.rt", "material_reply"),
+]
 
 IMPORT = re.compile(r"^(?:ghost |pub )*use Rattle·(\w+)(?:·\w+)?\.(specs|proofs)\.((?:inside\.)?\w+)\.\{([^}]*)\}", re.M)
 HEAD = re.compile(r"^(?:(?:pub|abbrev|unfoldable|data|record) )*([^\s(){}:;]+)\s")
@@ -89,7 +97,8 @@ class File:
         self.text = path.read_text()
         self.imports = {}
         for crate, folder, module, names in IMPORT.findall(self.text):
-            for name in names.split(","):
+            # The kit's own libraries stand elsewhere.
+            for name in names.split(",") if (CRATES / crate).is_dir() else []:
                 own, _, called = name.strip().partition(" as ")
                 self.imports[called or own] = CRATES / crate / folder / f"{module.replace('.', '/')}.antt", own
         self.definitions = {}
@@ -166,20 +175,52 @@ def misplaced(believed):
     return sorted((outer - believed) | (believed - outer))
 
 
+def contracts_reach(calls):
+    return {path for path, _ in reached((CRATES / path, clauses(CRATES / path, call)) for path, call in calls)}
+
+
+def named_in(row):
+    """The files that a row of a table names. One without a folder stands in that of the file before it."""
+    found = []
+    for name in re.findall(r"`(\S+\.(?:antt|rt))`", row):
+        found.append(ROOT / name if "/" in name else found[-1].parent / name)
+    return found
+
+
+def missing(page):
+    """The names of a page's tables that stand in no file of their row, where the row names files."""
+    found = []
+    for row in page.split("\n"):
+        files = named_in(row) if row.startswith("|") else []
+        words = WORD.findall(" ".join(path.read_text() for path in files if path.is_file()).replace("`", " "))
+        names = [name for name in re.findall(r"`([\w'-]+)`", row) if files and name not in words]
+        found += [f"{path}: no such file" for path in files if not path.is_file()]
+        found += [f"{name}: not in {', '.join(path.name for path in files)}" for name in names]
+    return found
+
+
+def faults(tables, believed):
+    if any(part not in TRUST.read_text() for part in tables):
+        yield "docs/TRUST.md has other tables"
+    for path in misplaced(believed):
+        yield f"{path.relative_to(ROOT)}: stands in the wrong folder"
+    for what in missing(PROVED.read_text()):
+        yield f"docs/PROVED.md: {what}"
+
+
 def main():
-    contracts = {path for path, _ in reached((CRATES / path, clauses(CRATES / path, call)) for path, call in CALLS)}
+    contracts = contracts_reach(CALLS)
     theorems = {path for path, _ in reached((CRATES / path, statement(CRATES / path, law)) for path, law in THEOREMS)}
-    tables = table(contracts), table(theorems - contracts)
+    programs = contracts_reach(PROGRAMS)
+    tables = table(contracts), table(theorems - contracts), table(programs - contracts - theorems)
     if "--check" in sys.argv[1:]:
-        if any(part not in PAGE.read_text() for part in tables):
-            sys.exit("docs/TRUST.md has other tables")
-        wrong = misplaced(contracts | theorems)
-        if wrong:
-            sys.exit("\n".join(f"{path.relative_to(ROOT)}: stands in the wrong folder" for path in wrong))
-        print("docs/TRUST.md has the tables as they are, and specs/inside/ has the others")
+        if wrong := list(faults(tables, contracts | theorems | programs)):
+            sys.exit("\n".join(wrong))
+        print("docs/TRUST.md has the tables as they are, specs/inside/ the others, and docs/PROVED.md names what is there")
         return
     print("What the contracts of the calls reach:\n\n" + tables[0])
-    print("What the statements of the demands' and the papers' theorems reach beyond that:\n\n" + tables[1], end="")
+    print("What the statements of the demands' and the papers' theorems reach beyond that:\n\n" + tables[1])
+    print("What the programs' own contracts reach beyond that:\n\n" + tables[2], end="")
 
 
 if __name__ == "__main__":
