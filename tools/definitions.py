@@ -5,7 +5,7 @@ statements of the demands' and the papers' theorems reach beyond them, and those
     python3 tools/definitions.py            prints the three tables, file by file with the lines of each
     python3 tools/definitions.py --check    says whether docs/TRUST.md has them as they are printed, whether just the
                                             others stand in specs/inside/, and whether docs/PROVED.md names only what
-                                            stands in the files that it names
+                                            stands in the files that it names, and wrong programs that are there
 
 It reads the sources as text. A contract reaches the names in its clauses; a name reaches those in its own definition.
 Lines are all lines of a file, its comments and imports too.
@@ -188,14 +188,18 @@ def named_in(row):
 
 
 def missing(page):
-    """The names of a page's tables that stand in no file of their row, where the row names files."""
+    """The names of a page's tables that stand in no file of their row, where the row names files, and the wrong programs
+    that are not there."""
     found = []
-    for row in page.split("\n"):
-        files = named_in(row) if row.startswith("|") else []
+    for row in [line for line in page.split("\n") if line.startswith("|")]:
+        files = named_in(row)
         words = WORD.findall(" ".join(path.read_text() for path in files if path.is_file()).replace("`", " "))
         names = [name for name in re.findall(r"`([\w'-]+)`", row) if files and name not in words]
         found += [f"{path}: no such file" for path in files if not path.is_file()]
         found += [f"{name}: not in {', '.join(path.name for path in files)}" for name in names]
+        for crate, label in re.findall(r"`(\w+)/(\w+)`", row):
+            if not (CRATES / crate / "must-fail" / f"{label}.edit").is_file():
+                found.append(f"{crate}/{label}: no such wrong program")
     return found
 
 
