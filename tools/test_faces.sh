@@ -455,95 +455,10 @@ told "a file that never ends" 1 \
     "face.py: standard input: refused 13: File at its end? No; it is damaged or no face file, so write it again" \
     "cat \$WORK/two.face /dev/zero | $face read - $made$left"
 
-# Random faces, through tools/face.py as the command calls it. It prints what differs from words_model.py.
-cat >"$work/round_trip.py" <<'P'
-import random
-
-import face
-from making import face_text, random_faces
-from models import words_model
-
-rng = random.Random(1)
-differ = 0
-
-
-def hold(is_right, what):
-    """Counts and prints what is not right."""
-    global differ
-    if not is_right:
-        differ += 1
-        print(what)
-
-
-def entries_of(file):
-    """The entries of a taken file, by way of its words."""
-    return words_model.read(words_model.read_words(file, 1216)[2])
-
-
-def typed(line):
-    """A line as another hand may type it."""
-    blank = rng.choice([" ", "\t", "  "])
-    words = [word.replace("x", "x0") if rng.random() < 0.1 else word for word in line.split()]
-    before = "".join(rng.choice(["", "\n", "# beside\n", " \t\n"]) for _ in range(2))
-    return before + rng.choice(["", blank]) + blank.join(words) + rng.choice(["", blank, "# gauge", "\r"]) + "\n"
-
-
-def try_face(file):
-    """The file as a text and written again, and written from what another hand types."""
-    wanted = words_model.file_of(entries_of(file))
-    text = face.text_of(file)
-    hold(file[4] == 1 or wanted == file, f"model {file.hex()}")
-    hold(face.file_of(text) == wanted, f"again {file.hex()}")
-    other = "".join(map(typed, text.decode().split("\n")[rng.randint(0, 1) :]))
-    hold(face.file_of(other.encode()) == wanted, f"typed {other!r}")
-
-
-def odd_entry(entry):
-    """An entry in place of another one, often a wrong one."""
-    if rng.random() < 0.3:
-        return words_model.Join(rng.choice([2, 3]))
-    sizes = [] if isinstance(entry, words_model.Join) else entry.sizes
-    size = rng.choice([0, 1, 1000, 1001, 65537]), rng.choice([0, 1, 1000, 1001, 65536])
-    return words_model.Gauge(rng.choice([sizes, [], sizes + [size], [size] + sizes, (sizes + [(1, 1)] * 9)[:9]]))
-
-
-def wanted_fault(entries):
-    """The number that refuses entries, and which of them is at fault, or the last one; 0 where they are taken."""
-    for count in range(1, len(entries) + 1):
-        number = words_model.number_of(words_model.words_of(entries[:count]))
-        if number not in (0, 12):
-            return number, count
-    return words_model.number_of(words_model.words_of(entries)), len(entries)
-
-
-def try_damaged(entries):
-    """The entries with one or two changed, put in or left out: refused at the same entry and by the same number."""
-    for _ in range(rng.randint(1, 2)):
-        place = rng.randrange(len(entries))
-        new = rng.choice([[], [odd_entry(entries[place])], [entries[place], odd_entry(entries[place])]])
-        entries = entries[:place] + new + entries[place + 1 :] or [words_model.Gauge([])]
-    # Of more than 127 entries words say 4 at once, a text what is wrong by the 128th.
-    if len(entries) > 127:
-        return
-    number, count = wanted_fault(entries)
-    text = face_text.text_of(entries)
-    try:
-        file = face.file_of(text.encode())
-        hold(number == 0 and file == words_model.file_of(entries), f"taken {text!r}")
-    except face_text.Wrong as wrong:
-        hold(f"(check {number})" in str(wrong) and wrong.line == count + 1, f"refused {text!r}: {wrong.line} {wrong}")
-
-
-for i in range(4000):
-    made = random_faces.face(rng, large=0.01) if i % 20 else random_faces.lopsided(rng)
-    try_face(made)
-    try_damaged(entries_of(made))
-print(f"{differ} differ")
-P
-echo "0 differ" >"$work/none"
+echo "4000 faces as texts and back, 0 differ" >"$work/fuzzed"
 
 echo "tools/face.py on random faces:"
-tried "4,000 faces as texts and back" 0 "$work/none" "" 'PYTHONPATH=tools python3 -B $WORK/round_trip.py'
+tried "4,000 faces as texts and back" 0 "$work/fuzzed" "" 'python3 tools/fuzz_texts.py --faces 4000 --seed 1'
 
 echo "$passed passed, $failed failed"
 [ "$failed" -eq 0 ]
