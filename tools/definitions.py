@@ -80,7 +80,7 @@ THEOREMS = [
 ]
 PROGRAMS = [
     ("input/src/lib.rt", "read_input"),
-    ("input/src/lib.rt", "outcome_of"),
+    ("input/src/lib.rt", "came"),
     ("filter/src/reply.rt", "faces_reply"),
     ("filter/src/reply.rt", "material_reply"),
 ]

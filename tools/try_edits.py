@@ -36,8 +36,8 @@ CALLS = {
     "materialtext": "mp",
 }
 
-# The crates that only the programs `faces` and `material` reach. tools/test_faces.sh tries what they do.
-UNREACHED = ["input", "filter"]
+# Only the programs `faces` and `material` reach these crates. tools/test_faces.sh tries what they do.
+UNREACHED = ["input"]
 
 NATIVE = "the native program at -O3"
 RIGHT = f"ok: {NATIVE} ended and wrote what is expected"

@@ -11,8 +11,7 @@ ghost use Rattle.report.specs.Faces.{FacesText};
 ghost use Rattle.materialtext.specs.Material.{materialBytes, MaterialText};
 ghost use Rattle.filter.specs.Reply.{unread, Replies};
 use input::Input;
-use input::Outcome;
-use input::outcome_of;
+use input::came;
 
 // A text of so many bytes at the start of a buffer; none, and no bytes, where the input was not read.
 pub struct Reply {
@@ -35,11 +34,10 @@ pub fn faces_reply(input: Input, room: &[u8], text: &mut [u8]) -> Reply
     ensures { λ r. ⌜ Replies FacesText input (now (room .entry)) (now (text .entry)) (now (text .exit)) r ⌝ }
     ensures { λ r. ⌜ Counted textBytes (now (text .exit)) (r .length) ⌝ }
 {
-    let length = input.length;
-    let outcome = outcome_of(input);
-    if let Outcome::Failed = outcome {
+    if !came(input) {
         return not_read();
     }
+    let length = input.length;
     Reply {
         read: true,
         length: report::faces_text(&room[..length], text),
@@ -52,11 +50,10 @@ pub fn material_reply(input: Input, room: &[u8], text: &mut [u8]) -> Reply
     ensures { λ r. ⌜ Replies MaterialText input (now (room .entry)) (now (text .entry)) (now (text .exit)) r ⌝ }
     ensures { λ r. ⌜ Counted materialBytes (now (text .exit)) (r .length) ⌝ }
 {
-    let length = input.length;
-    let outcome = outcome_of(input);
-    if let Outcome::Failed = outcome {
+    if !came(input) {
         return not_read();
     }
+    let length = input.length;
     Reply {
         read: true,
         length: materialtext::material_text(&room[..length], text),

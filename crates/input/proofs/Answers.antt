@@ -1,7 +1,9 @@
--- What the answers of the system to a read come to: the ways out of `outcome_of`, and why a reading stops.
+-- What the answers of the system to a read come to: the ways out of `outcome_of` and of `came`, and why a reading stops.
 -- An answer is below zero, zero or above; and where bytes came in a buffer with room, at least one of them was counted.
 use mathlib.Core.Path.{_≡_, refl, subst}
 use mathlib.Core.Bool.{Bool, true, false, true≢false}
+use mathlib.Core.Logic.{inl, inr}
+use mathlib.Core.List.{[], _∷_}
 use Prim.Native.Nat.{ℕ, zero, suc, _<_}
 use native.Mathlib.Omega.{arith}
 use lib.IntN.{ℤ, pos, negsuc}
@@ -9,11 +11,14 @@ use lib.Signed.{ltZ}
 use mir.Syntax.{w64}
 use mir.Val.{toZ, ofZ, SFits}
 use mir.ValLaws.{toZ-ofZ}
+use types.Run.{OneOf}
+use denote.Enum.Declared.{tagOf}
 use borrow.Author.Tests.{ltb-true}
 use Rattle.io.specs.Counts.{clamped}
+use Rattle.input.proofs.Outcome.{the-type}
 use Rattle.input.specs.declared.Outcome.{Outcome}
 use Rattle.input.specs.declared.Outcome.the-variants.{Whole, CutOff, Failed}
-use Rattle.input.specs.Outcome.{outcomeOf, Stopped}
+use Rattle.input.specs.Outcome.{outcomeOf, Stopped, arrived}
 
 -- Whether an answer is below zero, as the machine tests it.
 abbrev below : ℤ → Bool
@@ -49,6 +54,27 @@ module _ (z : ℤ) (fits : SFits w64 z) where
 
   pub read-cut : below z ≡ false → (ofZ w64 z ≡ 0 → ⊥) → CutOff ≡ outcomeOf z
   read-cut e h = is-cut z (plain false e) h
+
+-- The ways out of `came`. The match tells an outcome by its place among the three.
+is-lost : (o : Outcome) → OneOf (2 ∷ []) (tagOf the-type o) → false ≡ arrived o
+unfolding arrived
+is-lost Whole e = absurd (omega arith)
+is-lost CutOff e = absurd (omega arith)
+is-lost Failed e = refl
+
+is-there : (o : Outcome) → OneOf (0 ∷ 1 ∷ []) (tagOf the-type o) → true ≡ arrived o
+unfolding arrived
+is-there Whole e = refl
+is-there CutOff e = refl
+is-there Failed (inl e) = absurd (omega arith)
+is-there Failed (inr e) = absurd (omega arith)
+
+module _ (o found : Outcome) (same : found ≡ o) where
+  pub came-not : OneOf (2 ∷ []) (tagOf the-type found) → false ≡ arrived o
+  came-not e = rw (← same) (is-lost found e)
+
+  pub came-all : OneOf (0 ∷ 1 ∷ []) (tagOf the-type found) → true ≡ arrived o
+  came-all e = rw (← same) (is-there found e)
 
 -- Where no byte of an answer was counted, though there was room, the reading stopped.
 pub none-came : (z : ℤ) (most length room : ℕ) → 0 < most → clamped z most ≡ 0 → Stopped (outcomeOf z) length room

@@ -1,5 +1,6 @@
 -- How the reading of standard input into a buffer ended, by what the system answered to its last read.
 use mathlib.Core.Path.{_≡_}
+use mathlib.Core.Bool.{Bool, true, false}
 use Prim.Native.Nat.{ℕ, zero, suc}
 use lib.IntN.{ℤ, pos, negsuc}
 use Rattle.input.specs.declared.Outcome.{Outcome}
@@ -16,3 +17,9 @@ unfoldable pub Stopped : Outcome → (length room : ℕ) → Type 0
 Stopped Whole length room = Unit {0}
 Stopped CutOff length room = length ≡ room
 Stopped Failed length room = Unit {0}
+
+-- Whether the bytes that came may be taken for the input. Where a read failed, those that did not come may be anything.
+unfoldable pub arrived : Outcome → Bool
+arrived Whole = true
+arrived CutOff = true
+arrived Failed = false

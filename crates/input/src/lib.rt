@@ -2,7 +2,7 @@
 ghost use mathlib.Core.Path.{_≡_};
 ghost use lib.ListN.{length};
 ghost use Rattle.io.specs.Counts.{Counts};
-ghost use Rattle.input.specs.Outcome.{outcomeOf, Stopped};
+ghost use Rattle.input.specs.Outcome.{outcomeOf, Stopped, arrived};
 use libc::STDIN_FILENO;
 
 // The most times that a read is begun again. A loop has to end, and nothing says that interrupts do; no run uses it up.
@@ -53,7 +53,7 @@ pub fn read_input(room: &mut [u8]) -> Input
 }
 
 // How the reading ended, by what the system answered last.
-pub fn outcome_of(input: Input) -> Outcome
+fn outcome_of(input: Input) -> Outcome
     ensures { λ r. ⌜ r ≡ outcomeOf (input .last) ⌝ }
 {
     let last = input.last;
@@ -64,4 +64,15 @@ pub fn outcome_of(input: Input) -> Outcome
         return Outcome::Whole;
     }
     Outcome::CutOff
+}
+
+// Whether the bytes that came may be taken for the input: all of it, or as much as the buffer takes.
+pub fn came(input: Input) -> bool
+    ensures { λ r. ⌜ r ≡ arrived (outcomeOf (input .last)) ⌝ }
+{
+    let outcome = outcome_of(input);
+    if let Outcome::Failed = outcome {
+        return false;
+    }
+    true
 }
