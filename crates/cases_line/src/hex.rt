@@ -5,14 +5,14 @@ use crate::number::{after_sign, code, digit, next_number};
 use cases_shown::rooms::at_most;
 
 // How many bytes were decoded, and the place after them in the text.
-#[derive(Drop)]
+#[derive(Clone, Copy)]
 pub struct Decoded {
     pub length: usize,
     pub end: usize,
 }
 
 // A byte that stands so many times, and the place after it in the text.
-#[derive(Drop)]
+#[derive(Clone, Copy)]
 struct Run {
     byte: u8,
     times: u32,

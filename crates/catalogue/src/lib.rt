@@ -5,7 +5,7 @@ mod heights;
 pub use cataloguing::widths;
 
 // What the catalogue call answers: the number, and how many looks at the list it took, which are 0 where the number is not.
-#[derive(Drop)]
+#[derive(Clone, Copy)]
 pub struct Catalogued {
     pub number: u32,
     pub looks: u32,

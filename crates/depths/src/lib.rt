@@ -8,7 +8,7 @@ ghost use Rattle.depths.specs.inside.Deep.{Deep, Room, joined_at};
 use facefile::walk::{Entry, FIRST_ENTRY, entry_at};
 
 // The smallest and the largest number of joins above a gauge.
-#[derive(Drop)]
+#[derive(Clone, Copy)]
 pub struct Depths {
     pub least: u8,
     pub most: u8,

@@ -14,7 +14,7 @@ pub const BESIDE: u8 = 2;
 pub const STACKED: u8 = 3;
 
 // A place between two entries, and what was counted before it: parts on the stack, gauges and sizes.
-#[derive(Drop)]
+#[derive(Clone, Copy)]
 pub struct Cursor {
     pub at: usize,
     pub parts: usize,
@@ -23,7 +23,7 @@ pub struct Cursor {
 }
 
 // What reading on from a cursor gives: the number of a check that fails, or the cursor after what was read.
-#[derive(Drop)]
+#[derive(Clone, Copy)]
 pub enum Step {
     Stop(u32),
     Next(Cursor),

@@ -9,7 +9,7 @@ pub use size_bytes::gauge_bytes;
 
 // What the reader answers: the number of the first check that fails, with the counts 0; or 0, with the counts of
 // gauges and of sizes.
-#[derive(Drop)]
+#[derive(Clone, Copy)]
 pub struct Face {
     pub number: u32,
     pub gauges: usize,
@@ -17,7 +17,7 @@ pub struct Face {
 }
 
 // A stretch of the file's bytes, from one place up to another.
-#[derive(Drop)]
+#[derive(Clone, Copy)]
 struct Stretch {
     pub from: usize,
     pub to: usize,

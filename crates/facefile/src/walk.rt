@@ -12,7 +12,7 @@ use sizes::field::field;
 pub const FIRST_ENTRY: usize = 7;
 
 // A gauge entry: where its sizes stand, how many there are, and where the next entry begins.
-#[derive(Drop)]
+#[derive(Clone, Copy)]
 pub struct GaugeEntry {
     pub from: usize,
     pub to: usize,
@@ -21,7 +21,7 @@ pub struct GaugeEntry {
 }
 
 // An entry: a gauge, or a join of the two newest parts with its kind and where the next entry begins.
-#[derive(Drop)]
+#[derive(Clone, Copy)]
 pub enum Entry {
     Gauge(GaugeEntry),
     Join(u8, usize),

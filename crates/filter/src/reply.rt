@@ -14,7 +14,7 @@ ghost use Rattle.filter.specs.Reply.{unread, Replies};
 use input::{Input, came};
 
 // A text of so many bytes at the start of a buffer; none, and no bytes, where the input was not read.
-#[derive(Drop)]
+#[derive(Clone, Copy)]
 pub struct Reply {
     pub read: bool,
     pub length: usize,

@@ -12,7 +12,7 @@ use parts::build::build;
 use placing::{Fitted, place_face, refused};
 
 // How long the buffers are that a call is lent.
-#[derive(Drop)]
+#[derive(Clone, Copy)]
 pub struct Lengths {
     pub arena: usize,
     pub scratch: usize,

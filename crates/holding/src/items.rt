@@ -16,14 +16,14 @@ use forwards::due::{due_from_head, none_due, pass_links};
 const MOST: u32 = SIZES as u32;
 
 // m and true p of a record on the list.
-#[derive(Drop)]
+#[derive(Clone, Copy)]
 pub struct Item {
     pub m: u32,
     pub p: u32,
 }
 
 // What a pass finds: the number of the check that fails, or 0, and how many items the list has.
-#[derive(Drop)]
+#[derive(Clone, Copy)]
 pub struct Counted {
     pub number: u32,
     pub count: u32,

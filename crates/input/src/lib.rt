@@ -9,14 +9,14 @@ use libc::STDIN_FILENO;
 const TRIES: u64 = 1_000_000_000;
 
 // What came: so many bytes at the start of a buffer, and what the system answered to the last read of them.
-#[derive(Drop)]
+#[derive(Clone, Copy)]
 pub struct Input {
     pub length: usize,
     pub last: isize,
 }
 
 // How a reading ended: the input is whole; the buffer is full, and what may follow is cut off; or a read failed.
-#[derive(Drop)]
+#[derive(Clone, Copy)]
 pub enum Outcome {
     Whole,
     CutOff,

@@ -17,7 +17,7 @@ use Rattle.slicing.proofs.Placing.{words_length}
 use Rattle.packed.specs.inside.Packed.{pack, facing}
 use Rattle.packed.proofs.StoredLists.{Low, m_is, p_is}
 use Rattle.stored.specs.inside.Store.{Stored}
-use Rattle.stored.proofs.OwnLists.{entry_of}
+use Rattle.stored.proofs.PartLists.{entry_of}
 use Rattle.laying.specs.inside.Taking.{facing_item, Takable, Takes}
 use Rattle.laying.specs.inside.Laying.{shape_at, moved_by, Layable, laid}
 use Rattle.laying.proofs.StretchLaws.{table_inside}

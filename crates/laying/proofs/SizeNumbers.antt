@@ -11,7 +11,7 @@ use Rattle.slicing.specs.Tree.{gauge}
 use Rattle.useful.specs.inside.Order.{list_places, order_word, InOrder}
 use Rattle.useful.proofs.Digits.{digits_some, digits_all}
 use Rattle.useful.proofs.Places.{places_length}
-use Rattle.stored.proofs.OwnLists.{own_gauge}
+use Rattle.stored.proofs.PartLists.{own_gauge}
 use Rattle.laying.specs.inside.Laying.{GaugePlace}
 use Rattle.laying.proofs.StretchLaws.{word_inside, table_inside}
 

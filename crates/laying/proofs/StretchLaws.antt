@@ -21,7 +21,7 @@ use Rattle.packed.specs.inside.Joining.{read_as}
 use Rattle.packed.specs.declared.merge.Stretch.{Stretch}
 use Rattle.stored.specs.inside.Store.{own_shapes, Stored}
 use Rattle.stored.specs.inside.Filling.{stretch_of}
-use Rattle.stored.proofs.OwnLists.{entry_of, own_beside, own_stacked, kind_low}
+use Rattle.stored.proofs.PartLists.{entry_of, own_beside, own_stacked, kind_low}
 use Rattle.laying.specs.inside.Taking.{join_kind}
 
 -- A word that is not 0 is inside.

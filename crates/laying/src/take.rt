@@ -9,7 +9,7 @@ use packed::item::{m_of, p_of, read_item};
 use stored::fill::stretch;
 
 // The place of an item in a part's shape list by height, and its length along the join.
-#[derive(Drop)]
+#[derive(Clone, Copy)]
 pub struct Taken {
     pub place: usize,
     pub extent: u32,

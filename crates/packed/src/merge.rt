@@ -6,7 +6,7 @@ ghost use Rattle.packed.specs.inside.Joining.{Within, AtItem, Joinable, Joined};
 use crate::item::{m_of, p_of, swapped};
 
 // Where a stored list starts, how many items it has, and whether it is read turned.
-#[derive(Drop)]
+#[derive(Clone, Copy)]
 pub struct Stretch {
     pub from: usize,
     pub count: usize,

@@ -8,7 +8,7 @@ ghost use Rattle.picking.specs.inside.Picking.{Picks};
 use packed::item::{m_of, p_of, read_item};
 
 // The place of an item in a list, if there is one.
-#[derive(Drop)]
+#[derive(Clone, Copy)]
 pub struct Picked {
     pub found: bool,
     pub place: usize,

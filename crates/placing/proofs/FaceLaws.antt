@@ -24,7 +24,7 @@ use Rattle.packed.specs.declared.merge.Stretch.{Stretch}
 use Rattle.packed.proofs.StoredLists.{m_is, p_is}
 use Rattle.stored.specs.inside.Store.{own_shapes, Stored}
 use Rattle.stored.specs.inside.Filling.{stretch_of, Filled}
-use Rattle.stored.proofs.OwnLists.{own_length}
+use Rattle.stored.proofs.PartLists.{own_length}
 use Rattle.picking.specs.inside.Picking.{pick_at, Picks}
 use Rattle.picking.proofs.Looking.{product_low}
 use Rattle.laying.specs.inside.Laying.{shape_at, Layable, laid}

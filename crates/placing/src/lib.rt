@@ -5,7 +5,7 @@ pub use face::{place_face, refused};
 
 // What the fit call answers: the number, and of the layout that was written its height, its width and their product,
 // and the length of the root's list. They are 0 where the number is not.
-#[derive(Drop)]
+#[derive(Clone, Copy)]
 pub struct Fitted {
     pub number: u32,
     pub height: u32,

@@ -6,14 +6,14 @@ pub use read::read_words;
 pub use write::write_file;
 
 // What the writing call answers: the number, and the length of the file, which is 0 where the number is not.
-#[derive(Drop)]
+#[derive(Clone, Copy)]
 pub struct Saved {
     pub number: u32,
     pub length: u32,
 }
 
 // What the reading call answers: the number, and how many words it wrote, which is 0 where the number is not.
-#[derive(Drop)]
+#[derive(Clone, Copy)]
 pub struct Worded {
     pub number: u32,
     pub count: u32,

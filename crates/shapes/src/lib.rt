@@ -4,7 +4,7 @@ mod listing;
 pub use listing::{list, write_list};
 
 // What the list call answers: the number, and the item count, which is 0 where the number is not.
-#[derive(Drop)]
+#[derive(Clone, Copy)]
 pub struct Listed {
     pub number: u32,
     pub count: u32,

@@ -5,7 +5,7 @@ pub mod questions;
 pub use field::{is_within, size_in};
 
 // A height and a width.
-#[derive(Drop)]
+#[derive(Clone, Copy)]
 pub struct Size {
     pub height: u32,
     pub width: u32,

@@ -32,7 +32,7 @@ use Rattle.facefile.proofs.WalkStack.{walk_good, walk_gauges, walk_face, join_go
 use Rattle.stored.specs.inside.Store.{own_shapes, Entry, Named, Stored}
 use Rattle.stored.specs.inside.Filling.{Between, Lies, Added, Rows, Fillable, Filled}
 use Rattle.stored.specs.inside.Adding.{Room, GaugeAdded, JoinRoom}
-use Rattle.stored.proofs.OwnLists.{entry_of, own_gauge, own_length, own_few, cut_gauges, cut_short}
+use Rattle.stored.proofs.PartLists.{entry_of, own_gauge, own_length, own_few, cut_gauges, cut_short}
 use Rattle.stored.proofs.StoredRows.{stored_frame, lies_frame, rows_frame, rows_total, part_words, used, used_few}
 
 pub record Filling (gap : ℕ) (file s₀ s : List ℕ) (at part to : ℕ) : Type 0 where

@@ -21,7 +21,7 @@ use Rattle.stored.specs.inside.Store.{own_shapes, Entry}
 use Rattle.stored.specs.inside.Filling.{entry_at, Between, stretch_of, Added}
 use Rattle.stored.specs.inside.Adding.{JoinRoom, JoinAdded}
 use Rattle.stored.proofs.EntryLaws.{entry_added}
-use Rattle.stored.proofs.OwnLists.{own_merge, own_exchanged, own_low, own_filled, kind_low, cut_short}
+use Rattle.stored.proofs.PartLists.{own_merge, own_exchanged, own_low, own_filled, kind_low, cut_short}
 
 abbrev pub Joins : ℕ → List ℕ → ℕ → ℕ → ℕ → Type 0
 Joins gap s e to kind = (cut : Tree → Tree → Tree) × (a : Tree) × (b : Tree) × JoinRoom gap s e to kind cut a b

@@ -1,6 +1,6 @@
 pub mod EntryLaws
 pub mod Packing
-pub mod OwnLists
+pub mod PartLists
 pub mod JoinedLists
 pub mod StoredRows
 pub mod FillLoop

@@ -4,7 +4,7 @@ ghost use Rattle.std.proofs.lemmas.List.Edits.{sets};
 ghost use Rattle.walking.specs.inside.Walking.{most_looks, Closed, ClosedOver, Passed, Walkable, WalkedOver};
 
 // The item that is reached, and the looks of the walk so far.
-#[derive(Drop)]
+#[derive(Clone, Copy)]
 struct Stop {
     pub item: usize,
     pub looks: usize,
