@@ -1,5 +1,5 @@
 -- How a list of records stands in an arena, for the contracts of the functions that change one. No public contract cites it.
-use Rattle.std.specs.Prelude.{◌≡◌, ℕ, ◌+◌, ◌*◌, ◌%◌, ◌^◌, ◌<◌, ◌≤◌, cond, List, [], ◌∷◌, length, set, ◌≢◌, nat_lt, slice_set}
+use Rattle.std.specs.Prelude.{◌≡◌, ℕ, ◌+◌, ◌*◌, ◌%◌, ◌^◌, ◌<◌, ◌≤◌, cond, List, [], ◌∷◌, length, ◌≢◌, nat_lt, slice_set}
 use Rattle.arena.specs.Arena.{stride, word, level, m_word, p_word, forward, adjust}
 use Rattle.arena.specs.Lazy.{next_with, sum_from}
 
