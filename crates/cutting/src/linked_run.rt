@@ -22,10 +22,10 @@ pub fn linked_run(
     lasts: &mut [u32],
 )
     requires run_ready { RunReady arena.old head key ends.old }
-    requires key_value { passes arena.old (forward arena.old head 1) key ≡ true }
+    requires key_passes { passes arena.old (forward arena.old head 1) key ≡ true }
     requires cached { Cached arena.old head ends.old sums.old lasts.old }
     ensures run_moved { RunMoved arena.old arena.new head key q ends.old ends.new }
-    ensures cached_2 { Cached arena.new head ends.new sums.new lasts.new }
+    ensures cached_after { Cached arena.new head ends.new sums.new lasts.new }
 {
     let first = wide(get(arena, head, FORWARD));
     let next = wide(get(arena, first, FORWARD));

@@ -24,8 +24,8 @@ pub fn advanced(c: Cursor, bytes: usize) -> Cursor
 
 // A join, after its kind. It hangs on the number of parts alone, so it serves bytes and words.
 pub fn read_join(c: Cursor) -> Step
-    ensures by_index { (l : List ℕ) → Fair l c → Does (join_entry beside) l c result }
-    ensures by_index_2 { (l : List ℕ) → Fair l c → Does (join_entry stacked) l c result }
+    ensures as_beside { (l : List ℕ) → Fair l c → Does (join_entry beside) l c result }
+    ensures as_stacked { (l : List ℕ) → Fair l c → Does (join_entry stacked) l c result }
 {
     if c.parts < 2 {
         return Step::Stop(checks::JOIN);

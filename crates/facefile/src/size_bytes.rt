@@ -13,8 +13,8 @@ use crate::walk::{Entry, FIRST_ENTRY, entry_at};
 // Where the size bytes of a gauge of a taken file stand, the gauges counted from 1; an empty stretch where there is no
 // such gauge.
 fn find_sizes(file: &[u8], gauge: u32) -> Stretch
-    requires file_value { (t : Tree) × (face_of file.now ≡ taken t) }
-    requires le_gauge { 1 ≤ gauge }
+    requires face_taken { (t : Tree) × (face_of file.now ≡ taken t) }
+    requires gauge_from_one { 1 ≤ gauge }
     ensures { Found file.now gauge result }
 {
     let mut at = FIRST_ENTRY;

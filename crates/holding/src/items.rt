@@ -88,8 +88,8 @@ fn may_follow(count: u32, before: Item, item: Item) -> bool
 // The walk from the head, which lays m and true p of each item out in the rows: `next` is the record that it has come to,
 // `last` the one before it, `due` those that the higher links must come to, and `sums` the sums that lead there.
 fn lay_out(arena: &[u32], ms: &mut [u32], ps: &mut [u32]) -> Counted
-    requires buffer_words_in_bounds { (buffer_words ≤ length arena.now) × (level arena.now 0 ≡ 8) }
-    requires ms_len { (length ms.old ≡ most_sizes) × (length ps.old ≡ most_sizes) }
+    requires arena_long { (buffer_words ≤ length arena.now) × (level arena.now 0 ≡ 8) }
+    requires rooms_long { (length ms.old ≡ most_sizes) × (length ps.old ≡ most_sizes) }
     ensures { LaidOut (lazy_list arena.now) ms.new ps.new result }
 {
     let mut due = [0u32; 8];

@@ -22,7 +22,7 @@ fn words_room() -> [u32; WORDS]
 // The text of a taken face of so many gauges.
 fn taken_text(file: &[u8], gauges: usize, text: &mut [u8]) -> usize
     requires gauged { Gauged file.now gauges }
-    requires material_bytes_in_bounds { material_bytes ≤ length text.old }
+    requires text_long { material_bytes ≤ length text.old }
     ensures printed { Printed (material_printed (face_of file.now)) text.old text.new result }
     ensures counted { Counted material_bytes text.new result }
 {

@@ -33,7 +33,7 @@ fn step(
     requires step_ready { StepReady rib arena.old older newer ends.old }
     requires kept { Kept arena.old older newer ends.old olders.old newers.old lasts.old }
     ensures step_done { StepDone rib arena.old arena.new older newer ends.old ends.new }
-    ensures kept_2 { Kept arena.new older newer ends.new olders.new newers.new lasts.new }
+    ensures kept_after { Kept arena.new older newer ends.new olders.new newers.new lasts.new }
 {
     let r = wide(get(arena, older, FORWARD));
     let s = wide(get(arena, newer, FORWARD));
@@ -60,7 +60,7 @@ pub fn merge_runs(
     requires runs_ready { RunsReady rib arena.old older newer ends.old }
     requires kept { Kept arena.old older newer ends.old olders.old newers.old lasts.old }
     ensures runs_done { RunsDone rib arena.old arena.new older newer ends.old ends.new }
-    ensures kept_2 { Kept arena.new older newer ends.new olders.new newers.new lasts.new }
+    ensures kept_after { Kept arena.new older newer ends.new olders.new newers.new lasts.new }
 {
     let mut more = both_wait(arena, older, newer);
     while more {

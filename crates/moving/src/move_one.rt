@@ -37,10 +37,10 @@ pub fn move_one(
     lasts: &mut [u32],
 )
     requires run_ready { RunReady arena.old head key ends.old }
-    requires key_value { passes arena.old (forward arena.old (forward arena.old head 0) 0) key ≡ false }
+    requires key_stops { passes arena.old (forward arena.old (forward arena.old head 0) 0) key ≡ false }
     requires cached { Cached arena.old head ends.old sums.old lasts.old }
     ensures run_moved { RunMoved arena.old arena.new head key q ends.old ends.new }
-    ensures cached_2 { Cached arena.new head ends.new sums.new lasts.new }
+    ensures cached_after { Cached arena.new head ends.new sums.new lasts.new }
 {
     let r = wide(get(arena, head, FORWARD));
     let level = wide(get(arena, r, LEVEL));

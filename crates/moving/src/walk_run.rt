@@ -22,10 +22,10 @@ pub fn walk_run(
     lasts: &[u32],
 )
     requires run_ready { RunReady arena.old head key ends.old }
-    requires key_value { passes arena.old (forward arena.old head 1) key ≡ false }
+    requires key_stops { passes arena.old (forward arena.old head 1) key ≡ false }
     requires cached { Cached arena.old head ends.old sums.now lasts.now }
     ensures run_moved { RunMoved arena.old arena.new head key q ends.old ends.new }
-    ensures cached_2 { Cached arena.new head ends.new sums.now lasts.now }
+    ensures cached_after { Cached arena.new head ends.new sums.now lasts.now }
 {
     let v = lift(q, sums, lasts, 1);
     let to = walk(arena, head, key, v);

@@ -28,8 +28,8 @@ fn facing(arena: &mut [u32], head: usize, spare: usize, turned: bool) -> usize
 // Joins the part at a place of the stack and the one after it, with a rib between them, each turned first where it runs
 // the other way. The join takes the older part's place.
 pub fn join(arena: &mut [u32], place: usize, older: bool, newer: bool, rib: u32)
-    requires rib_le_most_rib { rib ≤ most_rib }
-    requires by_index { (levels : List ℕ) × (lo : ℕ) × (mid : ℕ) × (hi : ℕ) × (l : List Recorded) × (k : List Recorded) × Joinable levels arena.old place lo mid hi l k older newer }
+    requires rib_small { rib ≤ most_rib }
+    requires joinable { (levels : List ℕ) × (lo : ℕ) × (mid : ℕ) × (hi : ℕ) × (l : List Recorded) × (k : List Recorded) × Joinable levels arena.old place lo mid hi l k older newer }
     ensures { (levels : List ℕ) (lo mid hi : ℕ) (l k : List Recorded) → Joinable levels arena.old place lo mid hi l k older newer → Joined rib levels arena.old arena.new place lo mid hi l k older newer }
 {
     let first = facing(arena, FIRST + place, OLDER_TURNED, older);

@@ -58,8 +58,8 @@ fn told_text(
     layout: &[u32],
     text: &mut [u8],
 ) -> usize
-    requires count_in_bounds { (2 * count ≤ length items.now) × (length items.now ≤ 2 * 449) }
-    requires gauges_in_bounds { (5 * gauges ≤ length layout.now) × (length layout.now ≤ 5 * 64) × (text_bytes ≤ length text.old) }
+    requires items_few { (2 * count ≤ length items.now) × (length items.now ≤ 2 * 449) }
+    requires layout_and_text_long { (5 * gauges ≤ length layout.now) × (length layout.now ≤ 5 * 64) × (text_bytes ≤ length text.old) }
     ensures printed { (t : Tree) → Worked t face count items.now gauges layout.now → Printed (pick_printed t (smallest widest (shapes_of 0 t))) text.old text.new result }
     ensures counted { Counted text_bytes text.new result }
 {
@@ -88,7 +88,7 @@ fn placed_text(
     text: &mut [u8],
 ) -> usize
     requires levelled { Levelled file.now levels.now gauges }
-    requires buffer_words_in_bounds { (buffer_words ≤ length words.old) × (text_bytes ≤ length text.old) }
+    requires words_and_text_long { (buffer_words ≤ length words.old) × (text_bytes ≤ length text.old) }
     ensures printed { Printed (faces_printed (face_of file.now)) text.old text.new result }
     ensures counted { Counted text_bytes text.new result }
 {
@@ -102,7 +102,7 @@ fn placed_text(
 // The text of a taken face, by way of a levels buffer of as many bytes as it has sizes.
 fn taken_text(file: &[u8], gauges: usize, levels: &mut [u8], text: &mut [u8]) -> usize
     requires tallied { Tallied file.now gauges (length levels.old) }
-    requires text_bytes_in_bounds { text_bytes ≤ length text.old }
+    requires text_long { text_bytes ≤ length text.old }
     ensures printed { Printed (faces_printed (face_of file.now)) text.old text.new result }
     ensures counted { Counted text_bytes text.new result }
 {

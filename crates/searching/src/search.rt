@@ -17,8 +17,8 @@ pub fn may_pass(arena: &[u32], r: usize, key: u32) -> bool
 // How many links the records in front have, where one of them has link 1. They are counted from below, since few records
 // have many links.
 pub fn count_links(arena: &[u32], head: usize, key: u32) -> usize
-    requires by_index { ((rs : List ℕ) × Searchable arena.now head rs) × (1 ≤ key) }
-    requires key_value { passes arena.now (forward arena.now head 1) key ≡ true }
+    requires searchable { ((rs : List ℕ) × Searchable arena.now head rs) × (1 ≤ key) }
+    requires key_passes { passes arena.now (forward arena.now head 1) key ≡ true }
     ensures { (rs : List ℕ) → Searchable arena.now head rs → LinkCount arena.now key rs result }
 {
     let mut n = 2;
@@ -36,8 +36,8 @@ pub fn count_links(arena: &[u32], head: usize, key: u32) -> usize
 // The last record with each link below n in front, the head where there is none, and its adjust of that link. The arena
 // is only read.
 pub fn search(arena: &[u32], head: usize, key: u32, n: usize, cut: &mut [usize], sums: &mut [u32])
-    requires by_index { ((rs : List ℕ) × Searchable arena.now head rs) × (1 ≤ key) }
-    requires n_bound { (n ≤ 8) × (8 ≤ length cut.old) × (8 ≤ length sums.old) }
+    requires searchable { ((rs : List ℕ) × Searchable arena.now head rs) × (1 ≤ key) }
+    requires rooms_long { (n ≤ 8) × (8 ≤ length cut.old) × (8 ≤ length sums.old) }
     ensures { (rs : List ℕ) → Searchable arena.now head rs → CutAt arena.now head key n rs cut.new sums.new }
 {
     let mut cur = head;

@@ -24,7 +24,7 @@ pub fn newer_step(
     requires newer_ready { NewerReady rib arena.old older newer ends.old }
     requires kept { Kept arena.old older newer ends.old olders.old newers.old lasts.old }
     ensures newer_done { NewerDone rib arena.old arena.new older newer ends.old ends.new }
-    ensures kept_2 { Kept arena.new older newer ends.new olders.new newers.new lasts.new }
+    ensures kept_after { Kept arena.new older newer ends.new olders.new newers.new lasts.new }
 {
     let r = wide(get(arena, older, FORWARD));
     let key = get(arena, r, M) + 1;

@@ -26,7 +26,7 @@ pub fn older_step(
     requires older_ready { OlderReady rib arena.old older newer ends.old }
     requires kept { Kept arena.old older newer ends.old olders.old newers.old lasts.old }
     ensures older_done { OlderDone rib arena.old arena.new older newer ends.old ends.new }
-    ensures kept_2 { Kept arena.new older newer ends.new olders.new newers.new lasts.new }
+    ensures kept_after { Kept arena.new older newer ends.new olders.new newers.new lasts.new }
 {
     let s = wide(get(arena, newer, FORWARD));
     let key = get(arena, s, M);

@@ -5,4 +5,4 @@ use Rattle.sizes.proofs.field.size_at.Goals as goal
 
 pub returns : goal.returns
 returns c =
-    record { width_value = size_at_is c.args.file.now c.args.at _ _ c.field.ensures.0 c.field-2.ensures.0; height_bound = (c.field.ensures.1, c.field-2.ensures.1) }
+    record { size_value = size_at_is c.args.file.now c.args.at _ _ c.field.ensures.0 c.field-2.ensures.0; fields_fit = (c.field.ensures.1, c.field-2.ensures.1) }

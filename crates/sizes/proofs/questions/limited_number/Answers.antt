@@ -10,13 +10,13 @@ loop-i-init c = λ v other. checking_start _ _ _ _
 pub returns-then-not-is_limited : goal.returns-then-not-is_limited
 returns-then-not-is_limited c =
     λ v other.
-    checking_stop _ _ _ _ _ (c.loop-i.invariant v other) c.loop-i-test.true _ c.size_at.ensures.width_value _
+    checking_stop _ _ _ _ _ (c.loop-i.invariant v other) c.loop-i-test.true _ c.size_at.ensures.size_value _
     c.is_limited.ensures c.if-not-is_limited.true-raw
 
 pub loop-i-preserved : goal.loop-i-preserved
 loop-i-preserved c =
     λ v other.
-    checking_more _ _ _ _ _ (c.loop-i.invariant v other) c.loop-i-test.true _ c.size_at.ensures.width_value _
+    checking_more _ _ _ _ _ (c.loop-i.invariant v other) c.loop-i-test.true _ c.size_at.ensures.size_value _
     c.is_limited.ensures (ne_eqb v 1 other) c.if-not-is_limited.false-raw
 
 pub returns : goal.returns
