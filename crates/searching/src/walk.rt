@@ -10,8 +10,8 @@ use arena::words::{FORWARD, M, P, get, raise, wide};
 // Raises by v the p of each record in front of a list, of which there is one or more, and finds the last of them. The place
 // where the next record starts is kept beside its number, since the compiler else works it out twice a turn.
 pub fn walk(arena: &mut [u32], head: usize, key: u32, v: u32) -> usize
-    requires by_index { ((rs : List ℕ) × Searchable arena.old head rs) × (1 ≤ key) }
-    requires key_value { passes arena.old (forward arena.old head 0) key ≡ true }
+    requires searchable { ((rs : List ℕ) × Searchable arena.old head rs) × (1 ≤ key) }
+    requires key_passes { passes arena.old (forward arena.old head 0) key ≡ true }
     ensures { (rs : List ℕ) → Searchable arena.old head rs → Walked arena.old arena.new head key v rs result }
 {
     let mut cur = wide(get(arena, head, FORWARD));

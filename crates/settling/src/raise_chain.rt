@@ -6,8 +6,8 @@ use arena::words::{ADJUST, FORWARD, P, get, raise, wide};
 
 // Raises by v the p and the adjust k of each record with link k from `first` up to `stop`, which is not raised.
 pub fn raise_chain(arena: &mut [u32], first: usize, stop: usize, k: usize, v: u32)
-    requires k_bound { k < 8 }
-    requires by_index { (rs : List ℕ) × Chained arena.old k first stop rs }
+    requires link_low { k < 8 }
+    requires chained { (rs : List ℕ) × Chained arena.old k first stop rs }
     ensures { (rs : List ℕ) → Chained arena.old k first stop rs → Lifting arena.old arena.new k v rs }
 {
     let mut cur = first;

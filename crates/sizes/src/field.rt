@@ -24,8 +24,8 @@ pub fn field(file: &[u8], at: usize) -> u32
 // The size at a place: its height, then its width.
 pub fn size_at(file: &[u8], at: usize) -> Size
     requires { at + 4 ≤ length file.now }
-    ensures width_value { size result.height result.width ≡ size_at (drop at file.now) }
-    ensures height_bound { (result.height < 65536) × (result.width < 65536) }
+    ensures size_value { size result.height result.width ≡ size_at (drop at file.now) }
+    ensures fields_fit { (result.height < 65536) × (result.width < 65536) }
 {
     Size {
         height: field(file, at),

@@ -21,8 +21,8 @@ pub fn relink_one(arena: &mut [u32], head: usize, from: usize, to: usize, k: usi
 
 // The same at link 0, which also leads back: the back word of the first of these records becomes `from`.
 pub fn relink_lowest(arena: &mut [u32], head: usize, from: usize, to: usize, v: u32)
-    requires has { Has arena.old head × Has arena.old from × Has arena.old to }
-    requires has_2 { Has arena.old (forward arena.old head 0) × (from < 4_294_967_296) }
+    requires records_there { Has arena.old head × Has arena.old from × Has arena.old to }
+    requires front_there { Has arena.old (forward arena.old head 0) × (from < 4_294_967_296) }
     ensures { arena.new ≡ relink_lowest arena.old head from to v }
 {
     let first = wide(get(arena, head, FORWARD));
@@ -44,10 +44,10 @@ pub fn relink(
     lasts: &mut [u32],
 )
     requires front_ready { FrontReady arena.old head cut.now found.now ends.old n }
-    requires sums_len { (length sums.old ≡ 9) × (length lasts.old ≡ 9) }
+    requires rooms_long { (length sums.old ≡ 9) × (length lasts.old ≡ 9) }
     ensures front_moved { FrontMoved arena.old arena.new head cut.now found.now ends.old ends.new n }
-    ensures renewed_below { RenewedBelow (cut_sums found.now) n sums.old sums.new }
-    ensures renewed_below_2 { RenewedBelow (last_sums arena.old cut.now) n lasts.old lasts.new }
+    ensures sums_renewed { RenewedBelow (cut_sums found.now) n sums.old sums.new }
+    ensures lasts_renewed { RenewedBelow (last_sums arena.old cut.now) n lasts.old lasts.new }
 {
     let mut i = n;
     while 1 < i {

@@ -29,7 +29,7 @@ fn turn_links(arena: &mut [u32], to: usize, r: usize, sums: &mut [u32])
 // after it is `last`, the first one so far of the list that is made.
 fn turn_record(arena: &mut [u32], to: usize, r: usize, last: u32, sums: &mut [u32])
     requires { Turnable1 arena.old to r sums.old }
-    ensures by_index { (f : ℕ → ℕ) → Suffixes f sums.old → TakenOver arena.old f to r last arena.new }
+    ensures taken_over { (f : ℕ → ℕ) → Suffixes f sums.old → TakenOver arena.old f to r last arena.new }
     ensures renewed { Renewed arena.old r sums.old sums.new }
 {
     let m = get(arena, r, M);
