@@ -1,0 +1,77 @@
+-- `holding::items::lay_out` meets its contract.
+-- The loop keeps `Walking`; the measure is the records that the walk may still meet.
+-- The places where the function begins and where the sums of the head are made.
+-- The places where the record's links, its item, and its number, back word and level have just been tested, and where the turn begins.
+-- The record may stand on the list.
+use borrow.Author.Rules.{rules}
+use borrow.Author.Tests.{not-false}
+use native.Mathlib.Omega.{arith}
+use Rattle.holding.specs.inside.Pass.{Stands, Follows}
+use Rattle.forwards.proofs.Decisions.{decided}
+use Rattle.holding.proofs.ReadingWalk.{head_enterable, walking_start, walk_barred, walk_summable, walk_unordered, walk_undue, walk_on, walk_unturned, walk_loose, walk_laid}
+use Rattle.holding.proofs.items.lay_out.Goals as goal
+
+pub enter-requires : goal.enter-requires
+enter-requires c = search (rules, head_enterable)
+
+pub loop-next-init : goal.loop-next-init
+loop-next-init c = search (rules, walking_start)
+
+pub returns-then-not-may_stand : goal.returns-then-not-may_stand
+returns-then-not-may_stand c = search (rules, walk_barred)
+
+pub item_at-item-requires : goal.item_at-item-requires
+item_at-item-requires c = search (rules, walk_summable)
+
+pub returns-then-not-may_follow : goal.returns-then-not-may_follow
+returns-then-not-may_follow c = search (rules, walk_unordered)
+
+pub pass_links-requires : goal.pass_links-requires
+pass_links-requires c = (search (rules, walk_summable), search rules)
+
+pub returns-then-not-pass_links : goal.returns-then-not-pass_links
+returns-then-not-pass_links c = search (rules, walk_undue)
+
+pub bounds-ms-count : goal.bounds-ms-count
+bounds-ms-count c =
+    let stood : Stands c.args.arena.now c.loop-next.count c.loop-next.last c.loop-next.next = decided c.may_stand.result _ c.may_stand.ensures c.if-not-may_stand.false-raw in
+    let room = (stood).room in
+    let long = c.loop-next.invariant.ms_long in
+    omega arith
+
+pub bounds-ps-count : goal.bounds-ps-count
+bounds-ps-count c =
+    let stood : Stands c.args.arena.now c.loop-next.count c.loop-next.last c.loop-next.next = decided c.may_stand.result _ c.may_stand.ensures c.if-not-may_stand.false-raw in
+    let room = (stood).room in
+    let long = c.loop-next.invariant.ps_long in
+    omega arith
+
+pub get-requires-in-loop-next : goal.get-requires-in-loop-next
+get-requires-in-loop-next c =
+    let stood : Stands c.args.arena.now c.loop-next.count c.loop-next.last c.loop-next.next = decided c.may_stand.result _ c.may_stand.ensures c.if-not-may_stand.false-raw in
+    let few = (stood).few in
+    let long = c.loop-next.invariant.long in
+    (omega arith, search rules)
+
+pub loop-next-smaller : goal.loop-next-smaller
+loop-next-smaller c =
+    let stood : Stands c.args.arena.now c.loop-next.count c.loop-next.last c.loop-next.next = decided c.may_stand.result _ c.may_stand.ensures c.if-not-may_stand.false-raw in
+    let room = (stood).room in omega arith
+
+pub loop-next-preserved : goal.loop-next-preserved
+loop-next-preserved c =
+    let stood : Stands c.args.arena.now c.loop-next.count c.loop-next.last c.loop-next.next = decided c.may_stand.result _ c.may_stand.ensures c.if-not-may_stand.false-raw in
+    let follows = decided c.may_follow.result (Follows _ _ _ _ _) c.may_follow.ensures c.if-not-may_follow.false-raw in
+    let named = decided c.pass_links.result _ c.pass_links.ensures.decides c.if-not-pass_links.false-raw in
+    let yes = not-false c.pass_links.result c.if-not-pass_links.false-raw in
+    walk_on _ _ _ _ _ _ _ _ _ c.loop-next.invariant c.loop-next-test.true _ c.item_at-item.ensures.m_value c.item_at-item.ensures.true_p
+    (stood) follows named _ _ (c.pass_links.ensures.passed yes) (c.pass_links.ensures.renewed yes) _ _ c.get-in-loop-next.ensures c.wide-next-in-loop-next.ensures
+
+pub returns-then-wide-last : goal.returns-then-wide-last
+returns-then-wide-last c = search (rules, walk_unturned)
+
+pub returns-then-not-none_due : goal.returns-then-not-none_due
+returns-then-not-none_due c = search (rules, walk_loose)
+
+pub returns : goal.returns
+returns c = search (rules, walk_laid)
