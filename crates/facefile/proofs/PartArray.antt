@@ -37,7 +37,7 @@ stored : (f : Tree → ℕ) (a l : List ℕ) (n v : ℕ) (t : Tree) (parts : Lis
 stored f a l n v t parts e p h w long k =
     record {
       long = ap length p ∙ length-set a n v ∙ long;
-      held = rw (p, e) (held_push f a v t parts (omega arith) w k);
+      held = subst (λ (s : List ℕ). Held f s (t ∷ parts)) (sym (p ∙ ap (λ (i : ℕ). set a i v) e)) (held_push f a v t parts (omega arith) w k);
     }
 
 -- A stack of n parts, and what the code stores to the array.
