@@ -6,7 +6,7 @@ use Prim.Native.Nat.{ℕ, ◌≤◌}
 use native.Mathlib.Omega.{arith}
 use Rattle.checks.specs.Check.{Check, number_of}
 use Rattle.checks.specs.Limits.{most_gauges, most_sizes}
-use Rattle.checks.specs.Answer.{Answer, refused, taken, next, Asked, also, number}
+use Rattle.checks.specs.Answer.{Answer, refused, taken, Asked, also, number}
 use Rattle.checks.proofs.Answers.{same_taken, next_taken, also_taken, number_taken, number_refused, RefusedBy, next_refused, also_refused}
 use Rattle.slicing.specs.Tree.{Tree, gauge_count, size_count}
 use Rattle.facefile.specs.declared.Face.{Face}
