@@ -4,8 +4,7 @@ use mathlib.Core.Path.{◌≡◌, sym, subst, ◌∙◌}
 use mathlib.Core.List.{List, ◌∷◌, ◌++◌}
 use Prim.Native.Nat.{ℕ, ◌+◌, ◌<◌}
 use native.Mathlib.Omega.{arith}
-use lib.ListN.{length}
-use Rattle.arena.specs.Arena.{level, adjust, back, back_at, level_at, m_at, adjust_at}
+use Rattle.arena.specs.Arena.{adjust, back, back_at, level_at, m_at, adjust_at}
 use Rattle.arena.specs.inside.Chain.{Has, put, All, Away}
 use Rattle.arena.specs.inside.Backs.{Backs, Inner, BacksKept, WayBack, last_of}
 use Rattle.arena.proofs.PutLaws.{length_put, same_put, same_trans}
