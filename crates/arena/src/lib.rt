@@ -1,4 +1,6 @@
 // Records in a lent arena: their words, and the sums of a walk along a list of them.
+#![tactic(auto)]
+
 pub mod sums;
 pub mod words;
 

@@ -1,4 +1,6 @@
 // A catalogue of heights: the least width of a face for each.
+#![tactic(auto)]
+
 mod cataloguing;
 mod heights;
 

@@ -1,4 +1,6 @@
 // The numbers of the checks of documents 01 and 02. A "no" answers with its check's number, and a taken call with 0.
+#![tactic(auto)]
+
 ghost use Rattle.std.specs.Prelude.{◌≡◌};
 ghost use Rattle.checks.specs.Answer.{first_no};
 

@@ -1,4 +1,6 @@
 // The entries of a face file: checks 5 to 11 on one entry, and the kinds of parts.
+#![tactic(auto)]
+
 pub mod entry;
 mod gauge;
 mod gauge_sizes;

@@ -1,5 +1,7 @@
 // The face file of document 01: checks 1 to 13, what is counted in a taken file, the walk over its entries, and the size
 // bytes of a gauge.
+#![tactic(auto)]
+
 pub mod reader;
 mod size_bytes;
 pub mod walk;

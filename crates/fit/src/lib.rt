@@ -1,4 +1,6 @@
 // The smallest layout of a face in an opening.
+#![tactic(auto)]
+
 mod fitting;
 
 pub use fitting::{Lengths, asked_number, fit};

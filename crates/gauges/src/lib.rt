@@ -1,4 +1,6 @@
 // One gauge written into a buffer: its bytes in a file of version 2, with the file's header, and its words.
+#![tactic(auto)]
+
 mod file_bytes;
 mod gauge_words;
 

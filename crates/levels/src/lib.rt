@@ -1,4 +1,6 @@
 // The levels of a face's sizes: document 01's rule and the call that fills a levels buffer.
+#![tactic(auto)]
+
 ghost use Rattle.std.specs.Prelude.{◌≡◌, ◌≤◌, min, length};
 ghost use Rattle.checks.specs.Answer.{number};
 ghost use Rattle.checks.specs.Limits.{most_sizes};

@@ -1,4 +1,6 @@
 // The lines of the material sheet, from the words of a layout.
+#![tactic(auto)]
+
 mod areas;
 mod lines;
 mod sheet;

@@ -1,4 +1,6 @@
 // The material sheet of the smallest face in an opening.
+#![tactic(auto)]
+
 mod face;
 mod printing;
 

@@ -1,4 +1,6 @@
 // The smallest face of a taken file, picked and placed, for the calls that have made their checks.
+#![tactic(auto)]
+
 mod face;
 
 pub use face::{place_face, refused};

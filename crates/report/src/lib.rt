@@ -1,4 +1,6 @@
 // The text that the program `faces` prints, as bytes in a lent buffer.
+#![tactic(auto)]
+
 mod face;
 
 pub use face::{OPENING, RIB, faces_text};

@@ -1,4 +1,6 @@
 // A face saved and handed over again: words to a file of version 2, and a file to words.
+#![tactic(auto)]
+
 mod read;
 mod write;
 

@@ -1,4 +1,6 @@
 // The list of outer sizes of a face: the list call.
+#![tactic(auto)]
+
 mod listing;
 
 pub use listing::{list, write_list};

@@ -1,4 +1,6 @@
 // The sizes of a gauge in the bytes of a face file: 16-bit fields, and checks 8 and 9.
+#![tactic(auto)]
+
 pub mod field;
 pub mod questions;
 

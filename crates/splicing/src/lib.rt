@@ -1,3 +1,5 @@
 // Links: the front of a list is moved behind an open list, and an open list is closed.
+#![tactic(auto)]
+
 pub mod close;
 pub mod relink;
