@@ -6,4 +6,5 @@ pub returns : goal.returns
 returns c =
     record {
       least_after = rw c.lesser.ensures;
-      most_after = rw c.greater.ensures }
+      most_after = rw c.greater.ensures;
+    }

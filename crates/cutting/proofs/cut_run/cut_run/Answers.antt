@@ -10,7 +10,8 @@ search-requires c =
     let p = c.requires.run_ready in
     record {
       searchable = ((_, p.4.list), p.4.some);
-      rooms_long = ((c.count_links-n.ensures (p.2 ∷ p.3) p.4.list).few, search rules, search rules) }
+      rooms_long = ((c.count_links-n.ensures (p.2 ∷ p.3) p.4.list).few, search rules, search rules);
+    }
 
 pub settle-requires : goal.settle-requires
 settle-requires c =
@@ -29,7 +30,8 @@ relink-requires c =
     let settled = c.settle.ensures _ _ _ ready c.requires.cached in
     record {
       front_ready = (p.0, p.1, _, _, can_relink _ _ p.0 _ p.1 p.2 p.3 _ p.4 _ counted _ _ cut _ _ settled);
-      rooms_long = (c.requires.cached.head.nine, c.requires.cached.ends.nine) }
+      rooms_long = (c.requires.cached.head.nine, c.requires.cached.ends.nine);
+    }
 
 pub returns : goal.returns
 returns c =
@@ -46,4 +48,5 @@ returns c =
           let settled' = c.settle.ensures _ _ _ (can_settle _ _ hc _ cs r rs _ w _ counted' _ _ cut') c.requires.cached in
           let spliced' = c.relink.ensures.front_moved hc cs _ _ (can_relink _ _ hc _ cs r rs _ w _ counted' _ _ cut' _ _ settled') in
           run _ _ hc _ cs r rs _ w _ counted' _ _ cut' _ _ settled' _ _ spliced'.relinked _ spliced'.stored;
-      cached_after = run_cached _ _ p.0 _ p.1 p.2 p.3 _ p.4 _ counted _ _ cut _ _ settled _ _ spliced.relinked _ spliced.stored _ _ _ _ c.requires.cached c.relink.ensures.sums_renewed c.relink.ensures.lasts_renewed }
+      cached_after = run_cached _ _ p.0 _ p.1 p.2 p.3 _ p.4 _ counted _ _ cut _ _ settled _ _ spliced.relinked _ spliced.stored _ _ _ _ c.requires.cached c.relink.ensures.sums_renewed c.relink.ensures.lasts_renewed;
+    }

@@ -26,4 +26,5 @@ move_one-requires c =
     record {
       run_ready = p;
       key_stops = after_passes _ _ p.0 _ p.1 p.2 p.3 _ p.4 _ (is-first) _ _ _ _ c.get-2.ensures c.wide-next.ensures c.may_pass.ensures c.if-may_pass.false;
-      cached = c.requires.cached }
+      cached = c.requires.cached;
+    }

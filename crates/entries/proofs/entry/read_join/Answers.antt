@@ -9,10 +9,12 @@ pub returns-then-c-lt2 : goal.returns-then-c-lt2
 returns-then-c-lt2 c =
     record {
       as_beside = λ l fair. join_lacks l _ _ (search rules);
-      as_stacked = λ l fair. join_lacks l _ _ (search rules) }
+      as_stacked = λ l fair. join_lacks l _ _ (search rules);
+    }
 
 pub returns : goal.returns
 returns c =
     record {
       as_beside = λ l fair. join_taken l _ _ 0x02 cut_beside fair (search rules);
-      as_stacked = λ l fair. join_taken l _ _ 0x03 cut_stacked fair (search rules) }
+      as_stacked = λ l fair. join_taken l _ _ 0x03 cut_stacked fair (search rules);
+    }

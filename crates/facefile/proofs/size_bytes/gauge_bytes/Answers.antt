@@ -14,4 +14,5 @@ pub find_sizes-sizes-requires : goal.find_sizes-sizes-requires
 find_sizes-sizes-requires c =
     record {
       face_taken = face_tree _ _ c.read-face.ensures c.if-face-ne-TAKEN.false;
-      gauge_from_one = search rules }
+      gauge_from_one = search rules;
+    }

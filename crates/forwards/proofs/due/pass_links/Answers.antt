@@ -13,7 +13,8 @@ returns-then-wide-r c =
     record {
       decides = search (rules, passing_not);
       passed = λ yes. no_yes yes;
-      renewed = λ yes. no_yes yes }
+      renewed = λ yes. no_yes yes;
+    }
 
 pub loop-l-preserved : goal.loop-l-preserved
 loop-l-preserved c = search (rules, passing_more)
@@ -23,4 +24,5 @@ returns c =
     record {
       decides = search (rules, passing_met);
       passed = λ _. search (rules, passing_due);
-      renewed = λ _. search (rules, passing_sums) }
+      renewed = λ _. search (rules, passing_sums);
+    }

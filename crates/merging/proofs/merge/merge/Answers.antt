@@ -9,7 +9,8 @@ pub merge_runs-requires : goal.merge_runs-requires
 merge_runs-requires c =
     record {
       runs_ready = merge_ready _ _ _ _ _ c.clear_head.ensures c.requires;
-      kept = merge_kept _ _ _ _ _ c.clear_head.ensures c.requires }
+      kept = merge_kept _ _ _ _ _ c.clear_head.ensures c.requires;
+    }
 
 pub close-requires : goal.close-requires
 close-requires c = merge_closes _ _ _ _ _ c.clear_head.ensures _ _ c.merge_runs.ensures.runs_done c.requires

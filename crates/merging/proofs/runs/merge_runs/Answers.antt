@@ -13,7 +13,8 @@ pub step-requires : goal.step-requires
 step-requires c =
     record {
       step_ready = goes_ready _ _ _ _ _ _ _ _ c.loop-more.invariant.0 c.loop-more.invariant.1 c.loop-more-test.true c.requires.runs_ready;
-      kept = c.loop-more.invariant.2 }
+      kept = c.loop-more.invariant.2;
+    }
 
 pub both_wait-more-requires-in-loop-more : goal.both_wait-more-requires-in-loop-more
 both_wait-more-requires-in-loop-more c =
@@ -35,4 +36,5 @@ pub returns : goal.returns
 returns c =
     record {
       runs_done = goes_done _ _ _ _ _ _ _ _ c.loop-more.invariant.0 c.loop-more.invariant.1 c.loop-more-test.false;
-      kept_after = c.loop-more.invariant.2 }
+      kept_after = c.loop-more.invariant.2;
+    }

@@ -29,7 +29,8 @@ older_step-requires c =
     let older-ready : c.get-3.result ≤ c.get-top.result → OlderReady c.args.rib c.args.arena.now c.args.older c.args.newer c.args.ends.now = λ low. step_older _ _ _ _ _ _ _ (older-is) (newer-is) _ _ c.get-top.ensures c.get-3.ensures low c.requires.step_ready in
     record {
       older_ready = older-ready (let t = c.if-get-top.true in omega arith);
-      kept = c.requires.kept }
+      kept = c.requires.kept;
+    }
 
 pub newer_step-requires : goal.newer_step-requires
 newer_step-requires c =
@@ -38,7 +39,8 @@ newer_step-requires c =
     let newer-ready : c.get-top.result < c.get-3.result → NewerReady c.args.rib c.args.arena.now c.args.older c.args.newer c.args.ends.now = λ less. step_newer _ _ _ _ _ _ _ (older-is) (newer-is) _ _ c.get-top.ensures c.get-3.ensures less c.requires.step_ready in
     record {
       newer_ready = newer-ready (let t = c.if-get-top.false in omega arith);
-      kept = c.requires.kept }
+      kept = c.requires.kept;
+    }
 
 pub returns-then-get-top : goal.returns-then-get-top
 returns-then-get-top c =
@@ -46,7 +48,8 @@ returns-then-get-top c =
     let newer-is : c.wide-s.result ≡ word c.args.arena.now c.args.newer 3 = c.wide-s.ensures ∙ c.get-2.ensures in
     record {
       step_done = step_older_done _ _ _ _ _ _ _ (older-is) (newer-is) _ _ c.get-top.ensures c.get-3.ensures _ _ (let t = c.if-get-top.true in omega arith) c.older_step.ensures.older_done;
-      kept_after = c.older_step.ensures.kept_after }
+      kept_after = c.older_step.ensures.kept_after;
+    }
 
 pub returns-else-get-top : goal.returns-else-get-top
 returns-else-get-top c =
@@ -54,4 +57,5 @@ returns-else-get-top c =
     let newer-is : c.wide-s.result ≡ word c.args.arena.now c.args.newer 3 = c.wide-s.ensures ∙ c.get-2.ensures in
     record {
       step_done = step_newer_done _ _ _ _ _ _ _ (older-is) (newer-is) _ _ c.get-top.ensures c.get-3.ensures _ _ (let t = c.if-get-top.false in omega arith) c.newer_step.ensures.newer_done;
-      kept_after = c.newer_step.ensures.kept_after }
+      kept_after = c.newer_step.ensures.kept_after;
+    }

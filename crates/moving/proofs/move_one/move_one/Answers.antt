@@ -49,7 +49,8 @@ relink-requires c =
     let alone = c.requires.key_stops in
     record {
       front_ready = (p.0, p.1, _, _, first_relinkable _ _ p.0 _ p.1 p.2 p.3 _ p.4 alone _ (is-first) _ (is-level) _ _ _ (made) c.raise.ensures _ _ (omega arith) (all_one _) c.adjusts_of-found.ensures);
-      rooms_long = (kept.head.nine, kept.ends.nine) }
+      rooms_long = (kept.head.nine, kept.ends.nine);
+    }
 
 pub returns : goal.returns
 returns c =
@@ -62,4 +63,5 @@ returns c =
       run_moved = λ hc cs r rs w.
           first_moved _ _ hc _ cs r rs _ w c.requires.key_stops _ (is-first) _ (is-level) _ _ _ (made) c.raise.ensures _ _ (omega arith) (all_one _) c.adjusts_of-found.ensures _ _
           (c.relink.ensures.front_moved hc cs _ _ (first_relinkable _ _ hc _ cs r rs _ w c.requires.key_stops _ (is-first) _ (is-level) _ _ _ (made) c.raise.ensures _ _ (omega arith) (all_one _) c.adjusts_of-found.ensures));
-      cached_after = first_cached _ _ p.0 _ p.1 p.2 p.3 _ p.4 c.requires.key_stops _ (is-first) _ (is-level) _ _ _ (made) c.raise.ensures _ _ (omega arith) (all_one _) c.adjusts_of-found.ensures _ _ e _ _ _ _ c.requires.cached c.relink.ensures.sums_renewed c.relink.ensures.lasts_renewed }
+      cached_after = first_cached _ _ p.0 _ p.1 p.2 p.3 _ p.4 c.requires.key_stops _ (is-first) _ (is-level) _ _ _ (made) c.raise.ensures _ _ (omega arith) (all_one _) c.adjusts_of-found.ensures _ _ e _ _ _ _ c.requires.cached c.relink.ensures.sums_renewed c.relink.ensures.lasts_renewed;
+    }

@@ -14,7 +14,8 @@ walk-to-requires c =
     let p = c.requires.run_ready in
     record {
       searchable = ((_, p.4.list), p.4.some);
-      key_passes = first_passes _ _ p.0 _ p.1 p.2 p.3 _ p.4 }
+      key_passes = first_passes _ _ p.0 _ p.1 p.2 p.3 _ p.4;
+    }
 
 pub get-sum-requires : goal.get-sum-requires
 get-sum-requires c =
@@ -29,7 +30,8 @@ relink_lowest-requires c =
     let walked = c.walk-to.ensures (p.2 ∷ p.3) p.4.list in
     record {
       records_there = run_has _ _ p.0 _ p.1 p.2 p.3 _ p.4 c.requires.key_stops _ _ (made) _ _ walked;
-      front_there = run_first _ _ p.0 _ p.1 p.2 p.3 _ p.4 c.requires.key_stops _ _ (made) _ _ walked }
+      front_there = run_first _ _ p.0 _ p.1 p.2 p.3 _ p.4 c.requires.key_stops _ _ (made) _ _ walked;
+    }
 
 pub returns : goal.returns
 returns c =
@@ -38,4 +40,5 @@ returns c =
     record {
       run_moved = λ hc cs r rs w.
           run_moved _ _ hc _ cs r rs _ w c.requires.key_stops _ _ (made) _ _ (c.walk-to.ensures (r ∷ rs) w.list) _ c.get-sum.ensures _ c.relink_lowest.ensures;
-      cached_after = walk_cached _ _ p.0 _ p.1 p.2 p.3 _ p.4 c.requires.key_stops _ _ (made) _ _ (c.walk-to.ensures (p.2 ∷ p.3) p.4.list) _ c.get-sum.ensures _ c.relink_lowest.ensures _ _ c.requires.cached }
+      cached_after = walk_cached _ _ p.0 _ p.1 p.2 p.3 _ p.4 c.requires.key_stops _ _ (made) _ _ (c.walk-to.ensures (p.2 ∷ p.3) p.4.list) _ c.get-sum.ensures _ c.relink_lowest.ensures _ _ c.requires.cached;
+    }

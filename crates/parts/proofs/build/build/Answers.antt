@@ -47,10 +47,11 @@ load-requires c =
     let is-gauge = c.in-Gauge.is in
     let asked = c.asks_order-known.ensures in
     elim c.if-not-known.branch [
-      then-not-known w ↦ gauge_loads _ _ _ _ _ _ _ _ _ standing _ found _ is-gauge _ (w.named-is ∙ w.order-named.ensures)
-    | else-not-known w ↦
-        gauge_loads _ _ _ _ _ _ _ _ _ standing _ found _ is-gauge _
-        (gauge_in_order _ _ _ _ _ _ _ _ _ standing _ found _ is-gauge _ asked (ap not w.if-not-known.false) _ (w.named-is ∙ c.in_order-named.ensures)) ]
+      | then-not-known w ↦ gauge_loads _ _ _ _ _ _ _ _ _ standing _ found _ is-gauge _ (w.named-is ∙ w.order-named.ensures)
+      | else-not-known w ↦
+          gauge_loads _ _ _ _ _ _ _ _ _ standing _ found _ is-gauge _
+          (gauge_in_order _ _ _ _ _ _ _ _ _ standing _ found _ is-gauge _ asked (ap not w.if-not-known.false) _ (w.named-is ∙ c.in_order-named.ensures))
+    ]
 
 pub bounds-kinds-parts : goal.bounds-kinds-parts
 bounds-kinds-parts c = search (rules, gauge_room)
@@ -69,7 +70,8 @@ join-requires c =
     let inv = c.loop-at.invariant in
     record {
       rib_small = inv.ready.narrow;
-      joinable = join_ready _ _ _ _ _ _ _ _ _ c.loop-at.invariant _ c.entry_at.ensures _ _ c.in-Join.is _ _ c.runs_across-first.ensures c.runs_across-second.ensures }
+      joinable = join_ready _ _ _ _ _ _ _ _ _ c.loop-at.invariant _ c.entry_at.ensures _ _ c.in-Join.is _ _ c.runs_across-first.ensures c.runs_across-second.ensures;
+    }
 
 pub overflow_sub-parts : goal.overflow_sub-parts
 overflow_sub-parts c = search (rules, join_some)

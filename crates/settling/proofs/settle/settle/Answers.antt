@@ -34,7 +34,8 @@ raise_chain-requires c =
     let most = c.requires.3.most in
     record {
       link_low = omega arith;
-      chained = chained _ (c.wide-first.ensures ∙ c.get-in-loop-i.ensures) }
+      chained = chained _ (c.wide-first.ensures ∙ c.get-in-loop-i.ensures);
+    }
 
 pub loop-i-preserved : goal.loop-i-preserved
 loop-i-preserved c =

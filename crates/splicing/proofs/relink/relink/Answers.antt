@@ -27,7 +27,8 @@ relink_lowest-requires c =
     let has = relinking_has _ _ _ _ _ _ _ _ _ _ _ _ _ c.loop-i.invariant over in
     record {
       records_there = (has.1, has.2, has.3);
-      front_there = relinking_first _ _ _ _ _ _ _ _ _ _ _ _ _ c.loop-i.invariant over (search rules) }
+      front_there = relinking_first _ _ _ _ _ _ _ _ _ _ _ _ _ c.loop-i.invariant over (search rules);
+    }
 
 pub returns : goal.returns
 returns c =
@@ -36,4 +37,5 @@ returns c =
     record {
       front_moved = relinking_done _ _ _ _ _ _ _ _ _ _ _ _ _ inv over _ c.relink_lowest.ensures;
       sums_renewed = heads_renewed _ _ _ _ _ _ _ _ _ _ _ _ _ inv over;
-      lasts_renewed = lasts_renewed _ _ _ _ _ _ _ _ _ _ _ _ _ inv over }
+      lasts_renewed = lasts_renewed _ _ _ _ _ _ _ _ _ _ _ _ _ inv over;
+    }

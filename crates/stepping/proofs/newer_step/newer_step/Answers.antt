@@ -47,7 +47,8 @@ linked_run-requires c =
     record {
       run_ready = (_, _, _, _, newer_movable _ _ _ _ _ _ c.requires.newer_ready (is-first) _ c.get-key.ensures);
       key_passes = second _ c.if-may_pass.true;
-      cached = newer_cached _ _ _ _ _ _ c.requires.newer_ready (is-first) _ _ _ c.requires.kept }
+      cached = newer_cached _ _ _ _ _ _ c.requires.newer_ready (is-first) _ _ _ c.requires.kept;
+    }
 
 pub walk_run-requires : goal.walk_run-requires
 walk_run-requires c =
@@ -56,7 +57,8 @@ walk_run-requires c =
     record {
       run_ready = (_, _, _, _, newer_movable _ _ _ _ _ _ c.requires.newer_ready (is-first) _ c.get-key.ensures);
       key_stops = second _ c.if-may_pass.false;
-      cached = newer_cached _ _ _ _ _ _ c.requires.newer_ready (is-first) _ _ _ c.requires.kept }
+      cached = newer_cached _ _ _ _ _ _ c.requires.newer_ready (is-first) _ _ _ c.requires.kept;
+    }
 
 pub returns-then-may_pass : goal.returns-then-may_pass
 returns-then-may_pass c =
@@ -64,7 +66,8 @@ returns-then-may_pass c =
     let is-first : c.wide-r.result ≡ word c.args.arena.now c.args.older 3 = c.wide-r.ensures ∙ c.get.ensures in
     record {
       newer_done = newer_done _ _ _ _ _ _ _ _ _ _ (is-first) c.get-key.ensures (ap (λ (x : ℕ). x + c.args.rib) (q-is)) c.linked_run.ensures.run_moved;
-      kept_after = newer_kept _ _ _ _ _ _ c.requires.newer_ready (is-first) _ _ _ c.requires.kept _ c.get-key.ensures _ _ _ c.linked_run.ensures.run_moved _ _ c.linked_run.ensures.cached_after }
+      kept_after = newer_kept _ _ _ _ _ _ c.requires.newer_ready (is-first) _ _ _ c.requires.kept _ c.get-key.ensures _ _ _ c.linked_run.ensures.run_moved _ _ c.linked_run.ensures.cached_after;
+    }
 
 pub returns-else-may_pass : goal.returns-else-may_pass
 returns-else-may_pass c =
@@ -72,4 +75,5 @@ returns-else-may_pass c =
     let is-first : c.wide-r.result ≡ word c.args.arena.now c.args.older 3 = c.wide-r.ensures ∙ c.get.ensures in
     record {
       newer_done = newer_done _ _ _ _ _ _ _ _ _ _ (is-first) c.get-key.ensures (ap (λ (x : ℕ). x + c.args.rib) (q-is)) c.walk_run.ensures.run_moved;
-      kept_after = newer_kept _ _ _ _ _ _ c.requires.newer_ready (is-first) _ _ _ c.requires.kept _ c.get-key.ensures _ _ _ c.walk_run.ensures.run_moved _ _ c.walk_run.ensures.cached_after }
+      kept_after = newer_kept _ _ _ _ _ _ c.requires.newer_ready (is-first) _ _ _ c.requires.kept _ c.get-key.ensures _ _ _ c.walk_run.ensures.run_moved _ _ c.walk_run.ensures.cached_after;
+    }

@@ -44,7 +44,8 @@ linked_run-requires c =
     record {
       run_ready = (_, _, _, _, older_movable _ _ _ _ _ _ c.requires.older_ready (is-first) _ c.get-key.ensures);
       key_passes = second _ c.if-may_pass.true;
-      cached = record { head = kept.older; ends = kept.ends } }
+      cached = record { head = kept.older; ends = kept.ends };
+    }
 
 pub bounds-ends-0 : goal.bounds-ends-0
 bounds-ends-0 c =
@@ -67,7 +68,8 @@ walk_run-requires c =
     record {
       run_ready = (_, _, _, _, older_movable _ _ _ _ _ _ c.requires.older_ready (is-first) _ c.get-key.ensures);
       key_stops = second _ c.if-may_pass.false;
-      cached = record { head = kept.older; ends = kept.ends } }
+      cached = record { head = kept.older; ends = kept.ends };
+    }
 
 pub bounds-ends-0-else-may_pass : goal.bounds-ends-0-else-may_pass
 bounds-ends-0-else-may_pass c =
@@ -88,7 +90,8 @@ returns-then-may_pass c =
     let is-first : c.wide-s.result ≡ word c.args.arena.now c.args.newer 3 = c.wide-s.ensures ∙ c.get.ensures in
     record {
       older_done = older_done _ _ _ _ _ _ _ _ _ _ (is-first) c.get-key.ensures (ap (λ (x : ℕ). x + c.args.rib) (q-is)) c.linked_run.ensures.run_moved _ _ _ c.drop_tied.ensures;
-      kept_after = tied_kept _ _ _ _ _ _ _ _ _ _ (is-first) c.get-key.ensures (ap (λ (x : ℕ). x + c.args.rib) (q-is)) c.linked_run.ensures.run_moved _ _ _ c.drop_tied.ensures c.requires.older_ready _ _ _ _ c.requires.kept c.linked_run.ensures.cached_after }
+      kept_after = tied_kept _ _ _ _ _ _ _ _ _ _ (is-first) c.get-key.ensures (ap (λ (x : ℕ). x + c.args.rib) (q-is)) c.linked_run.ensures.run_moved _ _ _ c.drop_tied.ensures c.requires.older_ready _ _ _ _ c.requires.kept c.linked_run.ensures.cached_after;
+    }
 
 pub returns-else-may_pass : goal.returns-else-may_pass
 returns-else-may_pass c =
@@ -96,4 +99,5 @@ returns-else-may_pass c =
     let is-first : c.wide-s.result ≡ word c.args.arena.now c.args.newer 3 = c.wide-s.ensures ∙ c.get.ensures in
     record {
       older_done = older_done _ _ _ _ _ _ _ _ _ _ (is-first) c.get-key.ensures (ap (λ (x : ℕ). x + c.args.rib) (q-is)) c.walk_run.ensures.run_moved _ _ _ c.drop_tied-else-may_pass.ensures;
-      kept_after = tied_kept _ _ _ _ _ _ _ _ _ _ (is-first) c.get-key.ensures (ap (λ (x : ℕ). x + c.args.rib) (q-is)) c.walk_run.ensures.run_moved _ _ _ c.drop_tied-else-may_pass.ensures c.requires.older_ready _ _ _ _ c.requires.kept c.walk_run.ensures.cached_after }
+      kept_after = tied_kept _ _ _ _ _ _ _ _ _ _ (is-first) c.get-key.ensures (ap (λ (x : ℕ). x + c.args.rib) (q-is)) c.walk_run.ensures.run_moved _ _ _ c.drop_tied-else-may_pass.ensures c.requires.older_ready _ _ _ _ c.requires.kept c.walk_run.ensures.cached_after;
+    }

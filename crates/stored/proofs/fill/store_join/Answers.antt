@@ -9,19 +9,19 @@ use Rattle.stored.proofs.fill.store_join.Goals.{then-part_word, else-part_word}
 pub stretch-a-requires : goal.stretch-a-requires
 stretch-a-requires c =
     let two : TwoParts c.args.part c.part_word-rest.result c.if-part_word.long c.if-part_word.short =
-        elim c.if-part_word.branch [ then-part_word w ↦ inl (w.long-is, w.short-is) | else-part_word w ↦ inr (w.long-is, w.short-is) ] in
+    elim c.if-part_word.branch [ then-part_word w ↦ inl (w.long-is, w.short-is) | else-part_word w ↦ inr (w.long-is, w.short-is) ] in
     join_first _ _ _ _ _ _ c.part_word-rest.ensures _ _ two c.requires
 
 pub stretch-b-requires : goal.stretch-b-requires
 stretch-b-requires c =
     let two : TwoParts c.args.part c.part_word-rest.result c.if-part_word.long c.if-part_word.short =
-        elim c.if-part_word.branch [ then-part_word w ↦ inl (w.long-is, w.short-is) | else-part_word w ↦ inr (w.long-is, w.short-is) ] in
+    elim c.if-part_word.branch [ then-part_word w ↦ inl (w.long-is, w.short-is) | else-part_word w ↦ inr (w.long-is, w.short-is) ] in
     join_second _ _ _ _ _ _ c.part_word-rest.ensures _ _ two c.requires
 
 pub merge_lists-count-requires : goal.merge_lists-count-requires
 merge_lists-count-requires c =
     let two : TwoParts c.args.part c.part_word-rest.result c.if-part_word.long c.if-part_word.short =
-        elim c.if-part_word.branch [ then-part_word w ↦ inl (w.long-is, w.short-is) | else-part_word w ↦ inr (w.long-is, w.short-is) ] in
+    elim c.if-part_word.branch [ then-part_word w ↦ inl (w.long-is, w.short-is) | else-part_word w ↦ inr (w.long-is, w.short-is) ] in
     join_merges _ _ _ _ _ _ c.part_word-rest.ensures _ _ two _ _ c.stretch-a.ensures c.stretch-b.ensures c.requires
 
 pub overflow_add-first : goal.overflow_add-first
@@ -35,11 +35,11 @@ overflow_cast-first c =
 pub store_entry-requires : goal.store_entry-requires
 store_entry-requires c =
     let two : TwoParts c.args.part c.part_word-rest.result c.if-part_word.long c.if-part_word.short =
-        elim c.if-part_word.branch [ then-part_word w ↦ inl (w.long-is, w.short-is) | else-part_word w ↦ inr (w.long-is, w.short-is) ] in
+    elim c.if-part_word.branch [ then-part_word w ↦ inl (w.long-is, w.short-is) | else-part_word w ↦ inr (w.long-is, w.short-is) ] in
     join_stores _ _ _ _ _ _ c.part_word-rest.ensures _ _ two _ _ c.stretch-a.ensures c.stretch-b.ensures _ _ c.merge_lists-count.ensures c.requires
 
 pub returns : goal.returns
 returns c =
     let two : TwoParts c.args.part c.part_word-rest.result c.if-part_word.long c.if-part_word.short =
-        elim c.if-part_word.branch [ then-part_word w ↦ inl (w.long-is, w.short-is) | else-part_word w ↦ inr (w.long-is, w.short-is) ] in
+    elim c.if-part_word.branch [ then-part_word w ↦ inl (w.long-is, w.short-is) | else-part_word w ↦ inr (w.long-is, w.short-is) ] in
     join_done _ _ _ _ _ _ c.part_word-rest.ensures _ _ two _ _ c.stretch-a.ensures c.stretch-b.ensures _ _ c.merge_lists-count.ensures _ c.part_word-first.ensures _ c.store_entry.ensures

@@ -32,13 +32,13 @@ store_gauge-requires c =
     let filling = c.loop-at.invariant in
     let found = c.entry_at.ensures in
     let is-gauge = c.in-Gauge.is in
-    let asked = c.asks_order-known.ensures in
-    (
+    let asked = c.asks_order-known.ensures in (
       gauge_room _ _ _ _ _ _ _ filling _ found _ is-gauge,
       gauge_bytes _ _ _ _ _ _ _ filling _ found _ is-gauge,
       elim c.if-not-known.branch [
-        then-not-known w ↦ w.named-is ∙ w.order-named.ensures
-      | else-not-known w ↦ gauge_in_order _ _ _ _ _ _ _ filling _ found _ is-gauge _ asked (ap not w.if-not-known.false) _ (w.named-is ∙ c.in_order-named.ensures) ],
+        | then-not-known w ↦ w.named-is ∙ w.order-named.ensures
+        | else-not-known w ↦ gauge_in_order _ _ _ _ _ _ _ filling _ found _ is-gauge _ asked (ap not w.if-not-known.false) _ (w.named-is ∙ c.in_order-named.ensures)
+      ],
     )
 
 pub overflow_add-to : goal.overflow_add-to

@@ -16,4 +16,5 @@ returns c =
     let m_is = c.get-m.ensures in
     record {
       taken_over = λ f s. stored_hooked _ _ _ _ _ _ _ _ first second third _ p_is m_is f s _ _ c.turn_links.ensures.hooked;
-      renewed = λ f s. stored_passed _ _ _ _ _ _ _ _ first second third _ p_is m_is f s _ c.turn_links.ensures.renewed }
+      renewed = λ f s. stored_passed _ _ _ _ _ _ _ _ first second third _ p_is m_is f s _ c.turn_links.ensures.renewed;
+    }

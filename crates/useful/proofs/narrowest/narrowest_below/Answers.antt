@@ -14,13 +14,15 @@ loop-k-preserved c =
     let more = c.loop-k-test.true in
     let read = c.size_in-z.ensures in
     elim c.if-z-height.branch [
-      then-z-height+then-is_narrower w ↦
-        seen_better _ _ _ _ _ _ _ _ _ known more read _ w.if-z-height.true w.is_narrower.ensures w.if-is_narrower.true w.best-is w.place-is
-    | else-z-height w ↦
-        elim w.else-z-height.branch [
-          else-z-height-via-then-z-height+else-is_narrower v ↦
-            seen_worse _ _ _ _ _ _ _ _ _ known more read _ v.is_narrower.ensures v.if-is_narrower.false w.best-is w.place-is
-        | else-z-height-via-else-z-height v ↦ seen_tall _ _ _ _ _ _ _ _ _ known more read v.if-z-height.false w.best-is w.place-is ] ]
+      | then-z-height+then-is_narrower w ↦
+          seen_better _ _ _ _ _ _ _ _ _ known more read _ w.if-z-height.true w.is_narrower.ensures w.if-is_narrower.true w.best-is w.place-is
+      | else-z-height w ↦
+          elim w.else-z-height.branch [
+            | else-z-height-via-then-z-height+else-is_narrower v ↦
+                seen_worse _ _ _ _ _ _ _ _ _ known more read _ v.is_narrower.ensures v.if-is_narrower.false w.best-is w.place-is
+            | else-z-height-via-else-z-height v ↦ seen_tall _ _ _ _ _ _ _ _ _ known more read v.if-z-height.false w.best-is w.place-is
+          ]
+    ]
 
 pub returns : goal.returns
 returns c =
