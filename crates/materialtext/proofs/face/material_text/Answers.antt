@@ -10,22 +10,26 @@ pub returns-then-text-lt-TEXT : goal.returns-then-text-lt-TEXT
 returns-then-text-lt-TEXT c =
     record {
       material_text = text_short _ _ c.args.text.now _ 0 c.if-text-lt-TEXT.true refl refl;
-      counted = (omega arith, refl) }
+      counted = (omega arith, refl);
+    }
 
 pub returns-then-face-ne-TAKEN : goal.returns-then-face-ne-TAKEN
 returns-then-face-ne-TAKEN c =
     record {
       material_text = text_long _ _ c.args.text.now _ _ c.if-text-lt-TEXT.false (text_refused c.args.file.now c.read-face.result c.read-face.ensures c.if-face-ne-TAKEN.true _ _ _ c.render_refused.ensures.printed);
-      counted = (omega (arith, c.render_refused.ensures.counted.0), c.render_refused.ensures.counted.1) }
+      counted = (omega (arith, c.render_refused.ensures.counted.0), c.render_refused.ensures.counted.1);
+    }
 
 pub taken_text-requires : goal.taken_text-requires
 taken_text-requires c =
     record {
       gauged = gauged _ c.read-face.result c.read-face.ensures c.if-face-ne-TAKEN.false;
-      text_long = c.if-text-lt-TEXT.false }
+      text_long = c.if-text-lt-TEXT.false;
+    }
 
 pub returns : goal.returns
 returns c =
     record {
       material_text = text_long _ _ c.args.text.now _ _ c.if-text-lt-TEXT.false c.taken_text.ensures.printed;
-      counted = c.taken_text.ensures.counted }
+      counted = c.taken_text.ensures.counted;
+    }

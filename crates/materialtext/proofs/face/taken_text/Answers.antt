@@ -15,11 +15,13 @@ pub returns-then-sheet-ne-TAKEN : goal.returns-then-sheet-ne-TAKEN
 returns-then-sheet-ne-TAKEN c =
     record {
       printed = told_none _ _ c.requires.gauged _ _ _ c.print_face-sheet.ensures c.if-sheet-ne-TAKEN.true _ _ c.render_refused.ensures.printed;
-      counted = (omega (arith, c.render_refused.ensures.counted.0), c.render_refused.ensures.counted.1) }
+      counted = (omega (arith, c.render_refused.ensures.counted.0), c.render_refused.ensures.counted.1);
+    }
 
 pub returns : goal.returns
 returns c =
     let few = told_few _ _ c.requires.gauged _ _ _ c.print_face-sheet.ensures c.if-sheet-ne-TAKEN.false in
     record {
       printed = told_sheet _ _ c.requires.gauged _ _ _ c.print_face-sheet.ensures c.if-sheet-ne-TAKEN.false;
-      counted = (few, sym (length-take-le _ _ (omega (arith, c.requires.text_long)))) }
+      counted = (few, sym (length-take-le _ _ (omega (arith, c.requires.text_long))));
+    }

@@ -11,13 +11,15 @@ pub returns-then-text-lt-TEXT : goal.returns-then-text-lt-TEXT
 returns-then-text-lt-TEXT c =
     record {
       faces_text = text_short _ _ c.args.text.now _ 0 c.if-text-lt-TEXT.true refl refl;
-      counted = (omega arith, refl) }
+      counted = (omega arith, refl);
+    }
 
 pub returns-then-face-ne-TAKEN : goal.returns-then-face-ne-TAKEN
 returns-then-face-ne-TAKEN c =
     record {
       faces_text = text_long _ _ c.args.text.now _ _ c.if-text-lt-TEXT.false (text_refused c.args.file.now c.read-face.result c.read-face.ensures c.if-face-ne-TAKEN.true _ _ _ c.render_refused.ensures.printed);
-      counted = (omega (arith, c.render_refused.ensures.counted.0), c.render_refused.ensures.counted.1) }
+      counted = (omega (arith, c.render_refused.ensures.counted.0), c.render_refused.ensures.counted.1);
+    }
 
 pub slice_bounds-levels-end : goal.slice_bounds-levels-end
 slice_bounds-levels-end c =
@@ -34,10 +36,12 @@ taken_text-requires c =
     let few = read_few _ _ c.read-face.ensures c.if-face-ne-TAKEN.false in
     record {
       tallied = tallied_part c.args.file.now c.read-face.result c.read-face.ensures c.if-face-ne-TAKEN.false _ (part_counted c.read-face.result.sizes c.levels_room-levels.result (omega (arith, c.levels_room-levels.ensures)));
-      text_long = c.if-text-lt-TEXT.false }
+      text_long = c.if-text-lt-TEXT.false;
+    }
 
 pub returns : goal.returns
 returns c =
     record {
       faces_text = text_long _ _ c.args.text.now _ _ c.if-text-lt-TEXT.false c.taken_text.ensures.printed;
-      counted = c.taken_text.ensures.counted }
+      counted = c.taken_text.ensures.counted;
+    }

@@ -26,4 +26,5 @@ returns c =
     record {
       printed = placed_text c.args.file.now _ _ _ _ _ _ _ _ _ (record { ready = c.requires.levelled; wrote = c.write_list-count.ensures; placed_in = c.place_face-face.ensures })
           _ _ _ c.told_text.ensures.printed;
-      counted = c.told_text.ensures.counted }
+      counted = c.told_text.ensures.counted;
+    }

@@ -8,4 +8,5 @@ pub placed_text-requires : goal.placed_text-requires
 placed_text-requires c =
     record {
       levelled = levelled _ _ _ c.requires.tallied _ c.fill_taken.ensures;
-      words_and_text_long = search rules }
+      words_and_text_long = search rules;
+    }
