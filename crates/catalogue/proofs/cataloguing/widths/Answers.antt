@@ -1,6 +1,5 @@
 -- `catalogue::widths` meets its contract: the answer, the output, the arena and the scratch are as defined, refusals included.
 -- Each way out is one of the definition: a check of the file, a check of what was given and lent, or the list written and walked.
--- The states of a run that is taken, by the one in which all was answered "yes": the questions asked, the file taken, the file read, and the start.
 use mathlib.Core.Path.{◌≡◌, refl}
 use native.Mathlib.Omega.{arith}
 use Rattle.catalogue.proofs.WidthCall.{width_file, width_asked, width_writable, width_walkable, width_looks_fit, width_done}

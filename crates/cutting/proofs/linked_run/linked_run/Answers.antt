@@ -1,6 +1,5 @@
 -- `cutting::linked_run::linked_run` meets its contract, as each of the two ways that such a run can go meets it.
 -- Where the record after the first does not pass, the first is alone in front.
--- The function's entry, and the first record.
 use mathlib.Core.Path.{◌≡◌, ◌∙◌}
 use borrow.Author.Rules.{rules}
 use Rattle.arena.specs.Arena.{word}

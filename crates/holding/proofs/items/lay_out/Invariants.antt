@@ -1,8 +1,5 @@
 -- `holding::items::lay_out` meets its contract.
 -- The loop keeps `Walking`; the measure is the records that the walk may still meet.
--- The places where the function begins and where the sums of the head are made.
--- The places where the record's links, its item, and its number, back word and level have just been tested, and where the turn begins.
--- The record may stand on the list.
 use Prim.Native.Nat.{◌-◌}
 use Rattle.holding.proofs.ReadingWalk.{Walking}
 use Rattle.holding.proofs.items.lay_out.Given as goal

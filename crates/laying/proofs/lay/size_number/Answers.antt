@@ -1,6 +1,5 @@
 -- `laying::lay::size_number` meets its contract.
 -- The table says where the word behind the gauge's list stands, and the word has the number of the size.
--- With both words of the table read.
 use Prim.Native.Nat.{◌+◌, ◌<◌}
 use lib.ListN.{length}
 use borrow.Author.Rules.{rules}

@@ -1,6 +1,5 @@
 -- `laying::take::take_item` meets its contract.
 -- The first item of the list searched is the one taken, whichever way the list is stored.
--- The place that was found is in the list.
 use Prim.Native.Nat.{◌<◌}
 use borrow.Author.Rules.{rules}
 use Rattle.laying.proofs.TakeLaws.{side_ready, can_search, found_inside, can_read_found, takes_along, takes_upward}

@@ -1,6 +1,5 @@
 -- `loading::load::load` meets its contract.
 -- The loop keeps `Loading`, that the sizes whose digits were taken off are the list of the head; the measure is the word that is left.
--- The digit that a turn takes off names one of the sizes, which are those at the function's entry.
 use Rattle.loading.proofs.Loads.{Loading}
 use Rattle.loading.proofs.load.load.Given as goal
 

@@ -1,6 +1,5 @@
 -- `merging::merge::merge` meets its contract.
 -- The cleared result and the two lists are a merge on its way, with no sum at their heads, and closing gives its result.
--- The states of a merge: record 0 is cleared, the runs are moved, and the result is closed.
 use borrow.Author.Rules.{rules}
 use Rattle.merging.proofs.MergeLaws.{merge_ready, merge_kept, merge_closes, merge_end, merge_done}
 use Rattle.merging.proofs.merge.merge.Goals as goal

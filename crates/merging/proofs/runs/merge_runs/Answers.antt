@@ -1,6 +1,5 @@
 -- `merging::runs::merge_runs` meets its contract.
 -- The loop keeps `Goes`, whether both lists wait and that the sums kept are right; its measure is the number of records that wait.
--- The states of the loop: a turn begins, the test holds, and the step is made. Both lists are where they were at the function's entry.
 use native.Mathlib.Omega.{arith}
 use borrow.Author.Rules.{rules}
 use Rattle.merging.proofs.RunsLaws.{goes_start, goes_ready, goes_turn, goes_less, goes_done}

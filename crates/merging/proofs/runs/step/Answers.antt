@@ -1,6 +1,5 @@
 -- `merging::runs::step` meets its contract.
 -- The words it compares are the m of the two first records, and each way out is the step that it calls.
--- The states of a step, from the function's entry on: the first records of both lists are found, then their m, and the step that these call for is made.
 use mathlib.Core.Path.{◌≡◌, ◌∙◌}
 use Prim.Native.Nat.{◌≤◌, ◌<◌}
 use native.Mathlib.Omega.{arith}

@@ -1,6 +1,5 @@
 -- `moving::move_one::move_one` meets its contract: the first record stands behind the open list, raised, the list keeps the rest, and the sums kept are right again.
 -- `OneLaws` has that the record is its own cut, and what the calls do together.
--- The states of a run, from the function's entry on: the first record is found, its level, what it is raised by, and it is raised.
 use mathlib.Core.Path.{◌≡◌, ◌∙◌}
 use native.Mathlib.Omega.{arith}
 use borrow.Author.Rules.{rules}

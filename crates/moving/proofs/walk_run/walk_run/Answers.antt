@@ -1,6 +1,5 @@
 -- `moving::walk_run::walk_run` meets its contract: the front stands behind the open list, raised, and the list keeps the rest.
 -- The walk settles the front, and `RunLaws` puts it together with the one link that is changed, forth and back.
--- What is known behind the walk: the function's entry, and that what was added makes up for the other sums.
 use mathlib.Core.List.{◌∷◌}
 use borrow.Author.Rules.{rules}
 use Rattle.splicing.specs.inside.Open.{last_sums}

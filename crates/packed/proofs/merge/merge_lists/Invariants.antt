@@ -1,9 +1,5 @@
 -- `packed::merge::merge_lists` meets its contract.
 -- The loop keeps `Holding`: what is written, followed by the merge of what is left, is the whole merge, both places are those of the first items left, and x and y are their words, y with the rib in its p. The measure is the items left of both lists.
--- The newer item goes.
--- The older item goes.
--- Both go.
--- The older item went alone.
 use Prim.Native.Nat.{◌+◌}
 use Rattle.packed.proofs.Places.{left}
 use Rattle.packed.proofs.HeldWords.{Holding}

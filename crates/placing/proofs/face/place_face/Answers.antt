@@ -1,6 +1,5 @@
 -- `placing::face::place_face` meets its contract.
 -- The stored root's list is the face's, and each call is ready for the next.
--- The places of the calls, each from a later one.
 use native.Mathlib.Omega.{arith}
 use borrow.Author.Rules.{rules}
 use Rattle.slicing.specs.Layout.{outline}

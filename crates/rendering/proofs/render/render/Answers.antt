@@ -1,6 +1,5 @@
 -- `rendering::render::render` meets its contract.
 -- The text takes at most `text_bytes`, so each of its four parts fits; appended in turn from the buffer's start they are the text by `faces_printed`.
--- What is known at the entry.
 use native.Mathlib.Omega.{arith}
 use Rattle.rendering.proofs.Bounds.{Renderable, parts_fit}
 use Rattle.rendering.proofs.Faces.{parts_appended, faces_printed}

@@ -1,6 +1,5 @@
 -- `saving::read::put_entries` meets its contract: the words of the entries of a taken file are appended.
 -- The loop keeps `Putting`, where the walk stands and what it has appended; the measure is the bytes left.
--- At a join, the place of its word is one of the output.
 use Prim.Native.Nat.{◌-◌}
 use lib.ListN.{length}
 use Rattle.saving.proofs.FileEntries.{Putting}

@@ -1,6 +1,5 @@
 -- `saving::read_words` meets its contract: the answer and the output are as defined, refusals included.
 -- Either way out is one of the definition: the first check that fails, or the words written, of which the first is stored here.
--- Past the refusal.
 use native.Mathlib.Omega.{arith}
 use borrow.Author.Rules.{rules}
 use Rattle.saving.proofs.ReadCall.{Wordable, file_counts, words_refused, words_taken, first_word_room, entries_room, words_few, words_done}

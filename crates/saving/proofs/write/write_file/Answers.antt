@@ -1,6 +1,5 @@
 -- `saving::write_file` meets its contract: the answer and the output are as defined, refusals included.
 -- Either way out is one of the definition: the first check that fails, or the file written, its header first.
--- Past the refusal.
 use borrow.Author.Rules.{rules}
 use native.Mathlib.Omega.{arith}
 use Rattle.saving.proofs.WriteCall.{Savable, words_counts, file_refused, file_taken, header_room, entries_room, file_few, file_done}

@@ -1,6 +1,5 @@
 -- `searching::search::search` meets its contract: the cut of the list for the key, with its adjusts.
 -- The loop keeps `Going`, and its measure is the present link and the records left together.
--- The states of a turn: the next record with the link is found, and whether it passes.
 use Rattle.std.proofs.Common.{◌+◌}
 use Rattle.arena.specs.Arena.{forward}
 use Rattle.arena.proofs.Walking.{count}

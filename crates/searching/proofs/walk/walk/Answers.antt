@@ -1,6 +1,5 @@
 -- `searching::walk::walk` meets its contract: the front is raised, and its last record found.
 -- The loop keeps `Onward`, that the records passed are in front and raised, and where the next one starts; the measure is the number of records left, counted along the first link.
--- The states before the loop: the first record is found and raised, and the one after it is found.
 use Rattle.std.proofs.Common.{ℕ, ◌+◌, ◌<◌, length, refl, arith, rules}
 use borrow.Author.Rules.{Below-set}
 use Rattle.searching.proofs.Passing.{first_has, onward_start, onward_less, onward_more, onward_done}

@@ -1,6 +1,5 @@
 -- `searching::walk::walk` meets its contract: the front is raised, and its last record found.
 -- The loop keeps `Onward`, that the records passed are in front and raised, and where the next one starts; the measure is the number of records left, counted along the first link.
--- The states before the loop: the first record is found and raised, and the one after it is found.
 use Rattle.arena.proofs.Walking.{count}
 use Rattle.searching.proofs.Passing.{Onward}
 use Rattle.searching.proofs.walk.walk.Given as goal

@@ -1,6 +1,5 @@
 -- `settling::settle::settle` meets its contract: the front is settled.
 -- The loop keeps `Settling`, its measure is the links that are left, and the turn at link 0 ends it.
--- What is known of the loop's arena, at a turn and behind it: the function's entry, that the arena has the head, and that the records to raise are chained.
 use Rattle.settling.proofs.Settling.{Settling}
 use Rattle.settling.proofs.settle.settle.Given as goal
 

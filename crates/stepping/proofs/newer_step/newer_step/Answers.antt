@@ -1,6 +1,5 @@
 -- `stepping::newer_step::newer_step` meets its contract: the merge is further on, by a run of the newer list.
 -- Its key is one above the m of the older list's first record, so that the newer records above that m move, and `NewerStep` says what they do to the merge and to the sums kept.
--- The states of a step, from the function's entry on: the older list's first record is found, its true p, and whether the next record with link 1 of the list that moves passes.
 use mathlib.Core.Path.{◌≡◌, ap, ◌∙◌}
 use mathlib.Core.Bool.{Bool}
 use Prim.Native.Nat.{ℕ, ◌+◌}

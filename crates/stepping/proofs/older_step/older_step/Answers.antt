@@ -1,6 +1,5 @@
 -- `stepping::older_step::older_step` meets its contract: the merge is further on, by a run of the older list.
 -- Its key is the m of the newer list's first record, so that the older records that are not below it move; `OlderStep` says what they do to the merge and to the sums kept, and that the first record leaves where the last of them has its m.
--- The states of a step, from the function's entry on: the newer list's first record is found, its true p, and whether the next record with link 1 of the list that moves passes.
 use mathlib.Core.Path.{◌≡◌, ap, ◌∙◌}
 use mathlib.Core.Bool.{Bool}
 use Prim.Native.Nat.{ℕ, ◌+◌}
