@@ -23,7 +23,8 @@ use Rattle.laying.specs.inside.Laying.{shape_at, moved_by, Layable, laid}
 use Rattle.laying.proofs.StretchLaws.{table_inside}
 use Rattle.laying.proofs.ShapeReading.{shape_low}
 use Rattle.laying.proofs.TakeLaws.{Side}
-use Rattle.laying.proofs.JoinLaws.{side, words_of, View, Edges, edges}
+use lib.Dec.{eqb}
+use Rattle.laying.proofs.JoinLaws.{side, words_of, view, View, Edges, edges}
 use Rattle.laying.proofs.GaugeLaws.{Word, Ready, Lays}
 
 -- What is lent on of a list from a place.
@@ -54,6 +55,10 @@ pub record Join (gap : ℕ) (s : List ℕ) (part k x y : ℕ) (out : List ℕ) (
   pub seen : (t : Tree) → Layable gap s part t k x y out → View gap s part upward t k x y
   pub word : Word s part k z
   pub limit_is : limit ≡ cond upward (z % 65_536) (z / 65_536)
+
+-- It comes from what is read of the part, of which none says that it is a gauge.
+pub seen_join : {gap : ℕ} {s : List ℕ} {part k x y : ℕ} {out : List ℕ} {kind z limit : ℕ} → Ready gap s part k x y out → kind ≡ get_or s (4 * part + 2) 0 → (kind ≡ 1 → ⊥) → Word s part k z → limit ≡ cond (eqb kind 3) (z % 65_536) (z / 65_536) → Join gap s part k x y out (eqb kind 3) z limit
+seen_join ready e other word limit = record { ready = ready; seen = view e other; word = word; limit_is = limit }
 
 -- What the whole's item z makes the two parts take is at the places ka and kb of their lists.
 record Took (gap : ℕ) (upward : Bool) (z : Item) (a b : Tree) (ka ea kb : ℕ) : Type 0 where
