@@ -1,9 +1,7 @@
 -- `settling::settle::settle` meets its contract: the front is settled.
 -- The loop keeps `Settling`, its measure is the links that are left, and the turn at link 0 ends it.
-use Rattle.std.proofs.Common.{◌≡◌, ℕ, ◌+◌, ◌-◌, List, ◌∙◌, arith, rules}
-use Rattle.arena.specs.Arena.{word}
+use Rattle.std.proofs.Common.{◌∙◌, arith, rules}
 use Rattle.arena.specs.inside.Chain.{Has}
-use Rattle.settling.specs.inside.Lift.{Chained}
 use Rattle.settling.proofs.Settling.{ready_cut, settling_start, settling_chained, settling_turn, lowest_chained, settling_done, heads_has}
 use Rattle.settling.proofs.settle.settle.Goals as goal
 
@@ -28,12 +26,14 @@ lift-carry-requires c =
 
 pub raise_chain-requires : goal.raise_chain-requires
 raise_chain-requires c =
-    let chained : (first : ℕ) → first ≡ word c.loop-i.arena c.args.head (3 + (c.loop-i.i - 1)) → (rs : List ℕ) × Chained c.loop-i.arena (c.loop-i.i - 1) first c.loop-i.stop rs = λ first e. (_, settling_chained _ _ _ _ _ _ _ _ _ _ c.loop-i.invariant _ _ _ c.requires.3 c.requires.4 first e) in
     let below = c.loop-i.invariant.below in
     let most = c.requires.3.most in
     record {
       link_low = omega arith;
-      chained = chained _ (c.wide-first.ensures ∙ c.get-in-loop-i.ensures);
+      chained = (
+        _,
+        settling_chained _ _ _ _ _ _ _ _ _ _ c.loop-i.invariant _ _ _ c.requires.3 c.requires.4 _ (c.wide-first.ensures ∙ c.get-in-loop-i.ensures),
+      );
     }
 
 pub loop-i-preserved : goal.loop-i-preserved
