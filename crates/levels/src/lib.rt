@@ -29,6 +29,7 @@ fn cut_level(r: usize, top: u8) -> u8
 }
 
 // The top level of a face of n sizes.
+#[tactic(auto, using(crate::proofs::TopLevel::top_one))]
 fn top_level(n: usize, d: Depths) -> u8
     requires { (n ≤ most_sizes) × (d.least ≤ 63) }
     ensures { result ≡ top_level n d.least d.most }

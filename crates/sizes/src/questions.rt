@@ -84,6 +84,7 @@ fn limited_number(file: &[u8], at: usize, count: usize) -> u32
 }
 
 // The number of the first of checks 8 and 9 that fails among the sizes at a place, taken in turn, or 0.
+#[tactic(auto, using(crate::proofs::OrderedSizes::in_version_1))]
 pub fn sizes_number(file: &[u8], version: u32, at: usize, count: usize) -> u32
     requires { (1 ≤ count) × (count ≤ 8) × (at + 4 * count ≤ length file.now) }
     ensures { result ≡ number (sizes_from (version_rules version) count (drop at file.now)) }
