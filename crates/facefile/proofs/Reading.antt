@@ -146,9 +146,9 @@ reading_done rules file from count c i k h =
     subst (λ (a : Answer State). Follows file a (Next c)) all (k.fair, k.tracks)
 
 -- The end: one law for each way out.
-pub face_refused : (f : Face) (n : ℕ) (c : Check) → f ≡ refused_face n → n ≡ number_of c → f ≡ summary (refused c)
+pub summary_refused : (f : Face) (n : ℕ) (c : Check) → f ≡ refused_face n → n ≡ number_of c → f ≡ summary (refused c)
 unfolding summary
-face_refused f n c e h = e ∙ ap refused_face h
+summary_refused f n c e h = e ∙ ap refused_face h
 
 module _ (file : List ℕ) (c : Cursor) (f : Face) where
   not_one : (parts : List Tree) (rest : List ℕ) → (length parts ≡ 1 → ⊥) → one_part parts rest ≡ refused OnePart
@@ -160,7 +160,7 @@ module _ (file : List ℕ) (c : Cursor) (f : Face) where
   pub end_parts : f ≡ refused_face 12 → (c.parts ≡ 1 → ⊥) → Ends file c f
   unfolding Ends at_end
   end_parts e h s t =
-      face_refused f 12 OnePart e refl
+      summary_refused f 12 OnePart e refl
       ∙ ap summary (sym (not_one s.stack s.rest (λ one. h (sym t.parts ∙ one))))
 
   not_at_end : (parts : List Tree) (rest : List ℕ) → length parts ≡ 1 → (length rest ≡ 0 → ⊥) → one_part parts rest ≡ refused AtEnd
@@ -175,7 +175,7 @@ module _ (file : List ℕ) (c : Cursor) (f : Face) where
       let left = ap length t.rest ∙ length-drop c.at file in
       let inside = fair.inside in
       let some : length s.rest ≡ 0 → ⊥ = λ z. h (omega arith) in
-      face_refused f 13 AtEnd e refl ∙ ap summary (sym (not_at_end s.stack s.rest (t.parts ∙ one) some))
+      summary_refused f 13 AtEnd e refl ∙ ap summary (sym (not_at_end s.stack s.rest (t.parts ∙ one) some))
 
 one_left : (parts : List Tree) (rest : List ℕ) (g n : ℕ) → length parts ≡ 1 → length rest ≡ 0 → length (flat gauges_of parts) ≡ g → length (flat sizes_of parts) ≡ n → record { number = 0; gauges = g; sizes = n } ≡ summary (one_part parts rest)
 unfolding summary one_part
@@ -204,7 +204,7 @@ module _ (file : List ℕ) (rules : Rules) (from : State) (k : ℕ) (r : Step) (
         rw (← all) (by (entries rules k from) (subst (λ (x : Step). Follows file (entries rules k from) x) e follows))
       where
         by : (a : Answer State) → Follows file a (Stop m) → f ≡ summary (next a at_end)
-        by (refused c) h = face_refused f m c g h
+        by (refused c) h = summary_refused f m c g h
         by (taken s) h = absurd h
 
     pub read_next : (c : Cursor) → r ≡ Next c → Ends file c f → f ≡ summary face
@@ -226,7 +226,7 @@ module _ (file : List ℕ) (n : ℕ) (head : n ≡ number (header file)) where
   unfolding face_of
   read_header f h g =
       let bad = number_refused (header file) n head h in
-      face_refused f n bad.0 g bad.2
+      summary_refused f n bad.0 g bad.2
       ∙ ap (λ (a : Answer ℕ). summary (next a (λ count. next (entries (rules_of file) count (start file)) at_end))) (sym bad.1)
 
   pub headed : (v k : ℕ) → n ≡ 0 → v ≡ field file 3 → k ≡ field file 5 → next (entries (version_rules v) k (start file)) at_end ≡ face_of file

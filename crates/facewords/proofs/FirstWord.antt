@@ -16,7 +16,7 @@ use Rattle.entries.specs.Entry.{entries}
 use Rattle.facefile.specs.Format.{at_end}
 use Rattle.facefile.specs.Summary.{refused_face, summary}
 use Rattle.facefile.specs.declared.Face.{Face}
-use Rattle.facefile.proofs.Reading.{face_refused}
+use Rattle.facefile.proofs.Reading.{summary_refused}
 use Rattle.facewords.specs.Words.{word_rules, first_word, words_start, words_face}
 
 -- One law for each way out.
@@ -62,7 +62,7 @@ module _ (words : List ℕ) (n : ℕ) (first : n ≡ number (first_word words)) 
   unfolding words_face
   read_first f h g =
       let bad = number_refused (first_word words) n first h in
-      face_refused f n bad.0 g bad.2
+      summary_refused f n bad.0 g bad.2
       ∙ ap (λ (a : Answer ℕ). summary (next a (λ count. next (entries word_rules count (words_start words)) at_end))) (sym bad.1)
 
   pub counted : (k : ℕ) → n ≡ 0 → k ≡ get_or words 0 0 → next (entries word_rules k (words_start words)) at_end ≡ words_face words

@@ -54,7 +54,7 @@ has_one s from l k h g e =
     (λ i inside. pack_one (get_or l i (size 0 0)) (get_or k i (size 0 0)) (h.low i inside) (g.low i (omega arith)) (sym (h.at i inside) ∙ g.at i (omega arith)))
 
 -- An item more, written after the last.
-module _ (s : List ℕ) (from to : ℕ) (l : List Item) (y : Item) (word : ℕ) (has : HasList s from l) (end : from + length l ≡ to) (inside : to < length s) (is_is_word : word ≡ pack y) (low : Low y) where
+module _ (s : List ℕ) (from to : ℕ) (l : List Item) (y : Item) (word : ℕ) (has : HasList s from l) (end : from + length l ≡ to) (inside : to < length s) (word_is : word ≡ pack y) (low : Low y) where
   grown_at : (i : ℕ) (b : Bool) → ltb i (length l) ≡ b → i < length (l ++ (y ∷ [])) → get_or (set s to word) (from + i) 0 ≡ pack (get_or (l ++ (y ∷ [])) i (size 0 0))
   grown_at i true e h =
       let less = ltb-true i (length l) e in
@@ -67,7 +67,7 @@ module _ (s : List ℕ) (from to : ℕ) (l : List Item) (y : Item) (word : ℕ) 
       let place : from + i ≡ to = omega arith in
       ap (λ (n : ℕ). get_or (set s to word) n 0) place
       ∙ get_or-set_same s to word 0 inside
-      ∙ is_is_word
+      ∙ word_is
       ∙ ap pack (sym (get_or_at l y [] (size 0 0) i last))
 
   grown_low : (i : ℕ) (b : Bool) → ltb i (length l) ≡ b → i < length (l ++ (y ∷ [])) → Low (get_or (l ++ (y ∷ [])) i (size 0 0))

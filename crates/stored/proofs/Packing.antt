@@ -24,7 +24,7 @@ use Rattle.stored.proofs.EntryLaws.{entry_other, entry_added}
 
 -- An item more, written before the first.
 has_before : (s : List ℕ) (from : ℕ) (l : List Item) (y : Item) (word : ℕ) → HasList s (from + 1) l → word ≡ pack y → Low y → from < length s → HasList (set s from word) from (y ∷ l)
-has_before s from l y word has is_is_word low inside =
+has_before s from l y word has word_is low inside =
     record {
       inside = let within = has.inside in let same = length-set s from word in omega arith;
       at = at;
@@ -34,7 +34,7 @@ has_before s from l y word has is_is_word low inside =
     at : (i : ℕ) → i < length (y ∷ l) → get_or (set s from word) (from + i) 0 ≡ pack (get_or (y ∷ l) i (size 0 0))
     at zero less =
         let place : from + 0 ≡ from = omega arith in
-        ap (λ (n : ℕ). get_or (set s from word) n 0) place ∙ get_or-set_same s from word 0 inside ∙ is_is_word
+        ap (λ (n : ℕ). get_or (set s from word) n 0) place ∙ get_or-set_same s from word 0 inside ∙ word_is
     at (suc i) less =
         let place : from + suc i ≡ from + 1 + i = omega arith in
         get_or-set_other s from (from + suc i) word 0 (λ e. omega arith)
