@@ -1,14 +1,27 @@
 // The programs `faces` and `material` as Unix filters: a face file from standard input, its text to standard output, and
 // what fails to standard error.
+#![tactic(auto)]
+
 mod reply;
 
 ghost use Rattle.std.specs.Prelude.{◌≡◌, length};
 
-use input::read_input;
-use libc::STDOUT_FILENO;
+use input::{Source, read_input};
 use reply::{faces_reply, material_reply};
+use std::io;
+use std::process::ExitCode;
 
-// Room for every text of `faces`, and of `material`. Each `ensures` gives only the length, which lending needs.
+// How many bytes of a file are read at most.
+const MOST: usize = 4_096;
+
+// Room for what is read, and for every text of `faces`, and of `material`. Each `ensures` gives only the length, which
+// lending needs.
+fn input_room() -> [u8; MOST]
+    ensures { 4_096 ≡ length result }
+{
+    [0; MOST]
+}
+
 fn text_room() -> [u8; report::TEXT]
     ensures { 13645 ≡ length result }
 {
@@ -21,37 +34,48 @@ fn sheet_room() -> [u8; materialtext::TEXT]
     [0; materialtext::TEXT]
 }
 
+// Says in a line what failed, and why, and answers the status of a failure.
+fn fail(rt: &impl Eprint, what: &str, error: Option<io::Error>) -> ExitCode {
+    let _ = match error {
+        Some(error) => eprintln!(rt; "{what}: {error}"),
+        None => eprintln!(rt; "{what}"),
+    };
+    ExitCode::FAILURE
+}
+
 // Prints the face that fits 64,000 by 64,000, or the number of the check that refuses the file. Where a read fails
 // nothing is printed.
 //
 // Of a file longer than the buffer no more is read, as by `head`, so a program that goes on writing it is ended by SIGPIPE.
-pub fn run() {
-    let mut room = io::buffer();
-    let input = read_input(&mut room);
+pub fn run(rt: HostRuntime) -> ExitCode {
+    let mut source = Source::new(rt.stdin());
+    let mut room = input_room();
+    let input = read_input(&mut source, &mut room);
     let mut text = text_room();
     let reply = faces_reply(input, &room, &mut text);
     if !reply.read {
-        os::fail(b"faces: standard input");
-        return;
+        return fail(&rt, "faces: standard input", source.error());
     }
     let length = reply.length;
-    if !io::write_all(STDOUT_FILENO, &text[..length]) {
-        os::fail(b"faces: standard output");
+    match rt.write_all(&text[..length]) {
+        Ok(()) => ExitCode::SUCCESS,
+        Err(error) => fail(&rt, "faces: standard output", Some(error)),
     }
 }
 
 // Prints the material sheet of that face in the same way.
-pub fn run_material() {
-    let mut room = io::buffer();
-    let input = read_input(&mut room);
+pub fn run_material(rt: HostRuntime) -> ExitCode {
+    let mut source = Source::new(rt.stdin());
+    let mut room = input_room();
+    let input = read_input(&mut source, &mut room);
     let mut text = sheet_room();
     let reply = material_reply(input, &room, &mut text);
     if !reply.read {
-        os::fail(b"material: standard input");
-        return;
+        return fail(&rt, "material: standard input", source.error());
     }
     let length = reply.length;
-    if !io::write_all(STDOUT_FILENO, &text[..length]) {
-        os::fail(b"material: standard output");
+    match rt.write_all(&text[..length]) {
+        Ok(()) => ExitCode::SUCCESS,
+        Err(error) => fail(&rt, "material: standard output", Some(error)),
     }
 }

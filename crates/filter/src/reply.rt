@@ -4,7 +4,7 @@
 // 4,096 bytes of a file are enough: the text hangs on them alone (`enough_read` of report and of materialtext). So what is
 // cut off there is of no account.
 ghost use Rattle.std.specs.Prelude.{◌≡◌};
-ghost use Rattle.io.specs.Counts.{IsPrefixLen};
+ghost use Rattle.input.specs.Counts.{IsPrefixLen};
 ghost use Rattle.text.specs.Printing.{Counted};
 ghost use Rattle.rendering.specs.Room.{text_bytes};
 ghost use Rattle.report.specs.Faces.{FacesText};
