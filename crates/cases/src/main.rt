@@ -1,4 +1,4 @@
 // Runs cases of any call from standard input, the stored ones and random ones. cases_run has the form of a case.
-fn main() {
-    cases_run::run();
+fn main(rt: HostRuntime) {
+    cases_run::run(&rt);
 }

@@ -1,5 +1,7 @@
 // What stands in the line of a case: its name and its file, which are shown as they are read; numbers, bytes in
 // hexadecimal, and the words of a buffer that it replaces.
+#![tactic(auto)]
+
 pub mod file;
 pub mod hex;
 pub mod name;

@@ -18,11 +18,11 @@ fn name_end(text: &[u8]) -> usize
 }
 
 // Prints the name of a case, and answers the place after its colon.
-pub fn put_name(text: &[u8]) -> usize
+pub fn put_name(out: &impl Print, text: &[u8]) -> usize
     ensures { result ≤ length text.now }
 {
     let end = name_end(text);
-    put(&text[..end]);
-    put(b" ");
+    put(out, &text[..end]);
+    put(out, b" ");
     end
 }

@@ -6,16 +6,16 @@ use cases_shown::print::put;
 use cases_shown::rooms::text_room;
 
 // The text in the buffer that is lent.
-fn print(file: &[u8], room: &mut [u8]) {
+fn print(out: &impl Print, file: &[u8], room: &mut [u8]) {
     let length = materialtext::material_text(file, room);
-    put(b"text\n");
-    show_text(room, length);
+    put(out, b"text\n");
+    show_text(out, room, length);
 }
 
 // The same, lent so many bytes.
-pub fn call_material(file: &[u8], bytes: usize)
+pub fn call_material(out: &impl Print, file: &[u8], bytes: usize)
     requires { bytes ≤ 13_700 }
 {
     let mut room = text_room();
-    print(file, &mut room[..bytes]);
+    print(out, file, &mut room[..bytes]);
 }

@@ -7,37 +7,44 @@ use cases_shown::print::{end_line, put_next, put_word};
 use cases_shown::rooms::{TEXT, UNTOUCHED, WORDS, at_most, length_of, text_room, words_room};
 
 // Whether each of three buffers is as it was, of which the last has bytes.
-fn show_kept(arena: &[u32], scratch: &[u32], output: &[u8]) {
-    put_kept(b"arena", is_untouched(arena));
-    put_kept(b" scratch", is_untouched(scratch));
-    put_kept(b" output", is_blank(output));
-    end_line();
+fn show_kept(out: &impl Print, arena: &[u32], scratch: &[u32], output: &[u8]) {
+    put_kept(out, b"arena", is_untouched(arena));
+    put_kept(out, b" scratch", is_untouched(scratch));
+    put_kept(out, b" output", is_blank(output));
+    end_line(out);
 }
 
 // What the sheet call left where nothing fits: whether the output is as it was, and the list.
-fn show_none(arena: &[u32], output: &[u8]) {
-    put_kept(b"output", is_blank(output));
-    end_line();
-    show_list(arena);
+fn show_none(out: &impl Print, arena: &[u32], output: &[u8]) {
+    put_kept(out, b"output", is_blank(output));
+    end_line(out);
+    show_list(out, arena);
 }
 
 // What the sheet call answered and what it left, or whether the buffers are as they were.
-fn show_sheet(printed: materialsheet::Printed, arena: &[u32], scratch: &[u32], output: &[u8]) {
-    put_word(b"sheet ", printed.number);
-    put_next(printed.length);
-    end_line();
+fn show_sheet(
+    out: &impl Print,
+    printed: materialsheet::Printed,
+    arena: &[u32],
+    scratch: &[u32],
+    output: &[u8],
+) {
+    put_word(out, b"sheet ", printed.number);
+    put_next(out, printed.length);
+    end_line(out);
     if printed.number == 0 {
-        show_text(output, length_of(printed.length));
-        show_list(arena);
+        show_text(out, output, length_of(printed.length));
+        show_list(out, arena);
     } else if printed.number == 19 {
-        show_none(arena, output);
+        show_none(out, arena, output);
     } else {
-        show_kept(arena, scratch, output);
+        show_kept(out, arena, scratch, output);
     }
 }
 
 // The sheet call in the buffers that are lent.
 fn print(
+    out: &impl Print,
     file: &[u8],
     levels: &[u8],
     numbers: Numbers,
@@ -55,11 +62,11 @@ fn print(
         scratch,
         output,
     );
-    show_sheet(printed, arena, scratch, output);
+    show_sheet(out, printed, arena, scratch, output);
 }
 
 // The same with so many words or bytes of each buffer as the numbers say.
-pub fn call_sheet(file: &[u8], levels: &[u8], numbers: Numbers) {
+pub fn call_sheet(out: &impl Print, file: &[u8], levels: &[u8], numbers: Numbers) {
     let mut arena = words_room(UNTOUCHED);
     let mut scratch = words_room(UNTOUCHED);
     let mut output = text_room();
@@ -67,6 +74,7 @@ pub fn call_sheet(file: &[u8], levels: &[u8], numbers: Numbers) {
     let scratch_words = at_most(numbers.scratch, WORDS);
     let bytes = at_most(numbers.output, TEXT);
     print(
+        out,
         file,
         levels,
         numbers,

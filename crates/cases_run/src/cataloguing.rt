@@ -11,25 +11,27 @@ use cases_shown::rooms::{WORDS, at_most, words_room};
 
 // What the catalogue call answered and what it left for so many heights, or whether the buffers are as they were.
 fn show_widths(
+    out: &impl Print,
     catalogued: catalogue::Catalogued,
     heights: usize,
     arena: &[u32],
     scratch: &[u32],
     output: &[u32],
 ) {
-    put_word(b"widths ", catalogued.number);
-    put_next(catalogued.looks);
-    end_line();
+    put_word(out, b"widths ", catalogued.number);
+    put_next(out, catalogued.looks);
+    end_line(out);
     if catalogued.number == 0 {
-        show_output(output, heights);
-        show_list(arena);
+        show_output(out, output, heights);
+        show_list(out, arena);
     } else {
-        show_all_kept(arena, scratch, output);
+        show_all_kept(out, arena, scratch, output);
     }
 }
 
 // The catalogue call on heights, in the buffers that are lent.
 fn call_heights(
+    out: &impl Print,
     file: &[u8],
     levels: &[u8],
     rib: u32,
@@ -39,11 +41,12 @@ fn call_heights(
     output: &mut [u32],
 ) {
     let catalogued = catalogue::widths(file, levels, rib, heights, arena, scratch, output);
-    show_widths(catalogued, heights.len(), arena, scratch, output);
+    show_widths(out, catalogued, heights.len(), arena, scratch, output);
 }
 
 // The same on as many heights as the numbers say, some of which the text replaces.
 pub fn call_widths(
+    out: &impl Print,
     text: &[u8],
     file: &[u8],
     levels: &[u8],
@@ -58,6 +61,7 @@ pub fn call_widths(
     replace_words(text, numbers.end, &mut heights);
     let count = at_most(numbers.height, WORDS);
     call_heights(
+        out,
         file,
         levels,
         numbers.rib,

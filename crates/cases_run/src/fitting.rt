@@ -5,41 +5,49 @@ use cases_shown::list::show_list;
 use cases_shown::print::{end_line, put, put_next, put_word};
 
 // The number and the fields of an answer.
-fn put_answer(fitted: fit::Fitted) {
-    put_word(b"fit ", fitted.number);
-    put_next(fitted.height);
-    put_next(fitted.width);
-    put_next(fitted.area);
-    put_next(fitted.count);
-    end_line();
+fn put_answer(out: &impl Print, fitted: fit::Fitted) {
+    put_word(out, b"fit ", fitted.number);
+    put_next(out, fitted.height);
+    put_next(out, fitted.width);
+    put_next(out, fitted.area);
+    put_next(out, fitted.count);
+    end_line(out);
 }
 
 // The output of a taken call: five words for each gauge.
-fn show_layout(file: &[u8], output: &[u32]) {
+fn show_layout(out: &impl Print, file: &[u8], output: &[u32]) {
     let gauges = facefile::read(file).gauges;
     if gauges > 64 {
-        put(b"too many gauges\n");
+        put(out, b"too many gauges\n");
         return;
     }
-    show_output(output, 5 * gauges);
+    show_output(out, output, 5 * gauges);
 }
 
 // What the fit call answered and what it left, or whether the buffers are as they were.
-fn show_fitted(fitted: fit::Fitted, file: &[u8], arena: &[u32], scratch: &[u32], output: &[u32]) {
-    put_answer(fitted);
+fn show_fitted(
+    out: &impl Print,
+    fitted: fit::Fitted,
+    file: &[u8],
+    arena: &[u32],
+    scratch: &[u32],
+    output: &[u32],
+) {
+    put_answer(out, fitted);
     if fitted.number == 0 {
-        show_layout(file, output);
-        show_list(arena);
+        show_layout(out, file, output);
+        show_list(out, arena);
     } else if fitted.number == 19 {
-        show_output_kept(output);
-        show_list(arena);
+        show_output_kept(out, output);
+        show_list(out, arena);
     } else {
-        show_all_kept(arena, scratch, output);
+        show_all_kept(out, arena, scratch, output);
     }
 }
 
 // The fit call in the buffers that are lent.
 pub fn call_fit(
+    out: &impl Print,
     file: &[u8],
     levels: &[u8],
     rib: u32,
@@ -50,5 +58,5 @@ pub fn call_fit(
     output: &mut [u32],
 ) {
     let fitted = fit::fit(file, levels, rib, height, width, arena, scratch, output);
-    show_fitted(fitted, file, arena, scratch, output);
+    show_fitted(out, fitted, file, arena, scratch, output);
 }

@@ -9,6 +9,7 @@ use cases_shown::rooms::{OUTPUT, UNTOUCHED, WORDS, at_most, output_room, words_r
 
 // The list call, the catalogue call, or the fit call where the letter is another.
 fn call_lent(
+    out: &impl Print,
     letter: u8,
     text: &[u8],
     file: &[u8],
@@ -21,11 +22,12 @@ fn call_lent(
     requires { numbers.end ≤ length text.now }
 {
     if letter == b'l' {
-        call_list(file, levels, numbers.rib, arena, scratch, output);
+        call_list(out, file, levels, numbers.rib, arena, scratch, output);
     } else if letter == b'c' {
-        call_widths(text, file, levels, numbers, arena, scratch, output);
+        call_widths(out, text, file, levels, numbers, arena, scratch, output);
     } else {
         call_fit(
+            out,
             file,
             levels,
             numbers.rib,
@@ -39,7 +41,7 @@ fn call_lent(
 }
 
 // Makes it with so many words of each buffer as the numbers say.
-pub fn lend(letter: u8, text: &[u8], file: &[u8], levels: &[u8], numbers: Numbers)
+pub fn lend(out: &impl Print, letter: u8, text: &[u8], file: &[u8], levels: &[u8], numbers: Numbers)
     requires { numbers.end ≤ length text.now }
 {
     let mut arena = words_room(UNTOUCHED);
@@ -49,6 +51,7 @@ pub fn lend(letter: u8, text: &[u8], file: &[u8], levels: &[u8], numbers: Number
     let scratch_words = at_most(numbers.scratch, WORDS);
     let output_words = at_most(numbers.output, OUTPUT);
     call_lent(
+        out,
         letter,
         text,
         file,

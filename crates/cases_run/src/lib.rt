@@ -53,17 +53,20 @@
 // are not the same. `w` prints the number and the count, and the output as above. `a` prints the number and the count of
 // the words, and where the file is taken the number and the length of the one that is written again, and how many bytes of
 // the given one are not the same in it.
+#![tactic(auto)]
+
 mod calls;
 mod case;
 mod cataloguing;
 mod fitting;
 mod lending;
 
-ghost use Rattle.std.specs.Prelude.{◌≤◌};
+ghost use Rattle.std.specs.Prelude.{◌≡◌, ◌≤◌, length};
 
 use cases_line::number::number_at;
 use cases_shown::rooms::at_most;
-use libc::STDIN_FILENO;
+use input::read_input;
+use std::io::Read;
 
 // The most cases of a run. A loop has to end, and an input need not.
 const CASES: u64 = 1_000_000_000;
@@ -71,13 +74,20 @@ const CASES: u64 = 1_000_000_000;
 // The most bytes of a case.
 const MOST: usize = 65_536;
 
+// Room for a case, or for a file. The `ensures` gives only the length, which lending a part needs.
+fn case_room() -> [u8; MOST]
+    ensures { 65_536 ≡ length result }
+{
+    [0; MOST]
+}
+
 // The number of bytes of the next case, and 0 where the input has ended.
-fn next_length() -> usize
+fn next_length(source: &mut impl Read) -> usize
     ensures { result ≤ 65_536 }
 {
     let mut head = [0u8; 7];
-    let got = io::read_full(STDIN_FILENO, &mut head);
-    if got < 7 {
+    let input = read_input(source, &mut head);
+    if input.length < 7 {
         return 0;
     }
     at_most(number_at(&head, 0).value, MOST)
@@ -85,35 +95,45 @@ fn next_length() -> usize
 
 // Reads a case, as many bytes as there is room for, and shows what it gives. The file that is lent has so many bytes, and
 // the answer is how many it has then.
-fn show_read(room: &mut [u8], file: &mut [u8], bytes: usize) -> usize {
-    let got = io::read_full(STDIN_FILENO, room);
-    case::show_case(&room[..got], file, bytes)
+fn show_read(
+    out: &impl Print,
+    source: &mut impl Read,
+    room: &mut [u8],
+    file: &mut [u8],
+    bytes: usize,
+) -> usize {
+    let length = read_input(source, room).length;
+    case::show_case(out, &room[..length], file, bytes)
 }
 
 // The same for a case of a length.
-fn show_sized(length: usize, file: &mut [u8], bytes: usize) -> usize
+fn show_sized(
+    out: &impl Print,
+    source: &mut impl Read,
+    length: usize,
+    file: &mut [u8],
+    bytes: usize,
+) -> usize
     requires { length ≤ 65_536 }
 {
-    let mut room = io::large_buffer();
-    show_read(&mut room[..length], file, bytes)
+    let mut room = case_room();
+    show_read(out, source, &mut room[..length], file, bytes)
 }
 
 // All cases, with room for a file.
-fn show_cases(file: &mut [u8]) {
+fn show_cases(out: &impl Print, source: &mut impl Read, file: &mut [u8]) {
     let mut bytes = 0;
-    let mut done = 0;
-    while done < CASES {
-        let length = next_length();
+    for _ in 0..CASES {
+        let length = next_length(source);
         if length == 0 {
             return;
         }
-        bytes = show_sized(length, file, bytes);
-        done += 1;
+        bytes = show_sized(out, source, length, file, bytes);
     }
 }
 
 // Shows what each case from standard input gives.
-pub fn run() {
-    let mut file = io::large_buffer();
-    show_cases(&mut file);
+pub fn run(rt: &(impl Input + Print)) {
+    let mut file = case_room();
+    show_cases(rt, &mut rt.reader(), &mut file);
 }

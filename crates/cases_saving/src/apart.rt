@@ -31,20 +31,16 @@ fn has_byte(bytes: &[u8], at: usize, byte: u8) -> bool {
 
 pub fn words_apart(words: &[u32], others: &[u32]) -> usize {
     let mut count = 0;
-    let mut i = 0;
-    while i < words.len() {
-        count = counted(count, has_word(others, i, words[i]));
-        i += 1;
+    for (i, word) in words.iter().enumerate() {
+        count = counted(count, has_word(others, i, *word));
     }
     count
 }
 
 pub fn bytes_apart(bytes: &[u8], others: &[u8]) -> usize {
     let mut count = 0;
-    let mut i = 0;
-    while i < bytes.len() {
-        count = counted(count, has_byte(others, i, bytes[i]));
-        i += 1;
+    for (i, byte) in bytes.iter().enumerate() {
+        count = counted(count, has_byte(others, i, *byte));
     }
     count
 }

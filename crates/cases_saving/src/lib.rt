@@ -1,4 +1,6 @@
 // The calls between words and files, with what they give as text on standard output.
+#![tactic(auto)]
+
 mod again;
 mod apart;
 mod given;

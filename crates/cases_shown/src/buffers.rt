@@ -16,53 +16,53 @@ fn shown_of(words: usize) -> usize
 }
 
 // Words of an output.
-fn put_words(words: &[u32]) {
+fn put_words(out: &impl Print, words: &[u32]) {
     let shown = shown_of(words.len());
-    put_row(&words[..shown]);
+    put_row(out, &words[..shown]);
     if shown < words.len() {
-        put_sum(sum_of(&words[shown..]));
+        put_sum(out, sum_of(&words[shown..]));
     }
 }
 
 // Bytes of a file, in hexadecimal.
-pub fn put_file(bytes: &[u8]) {
+pub fn put_file(out: &impl Print, bytes: &[u8]) {
     let shown = shown_of(bytes.len());
-    put_bytes(&bytes[..shown]);
+    put_bytes(out, &bytes[..shown]);
     if shown < bytes.len() {
-        put_sum(sum_of_bytes(&bytes[shown..]));
+        put_sum(out, sum_of_bytes(&bytes[shown..]));
     }
 }
 
 // So many words of the output, and whether those after them are as they were.
-pub fn show_output(output: &[u32], words: usize) {
+pub fn show_output(out: &impl Print, output: &[u32], words: usize) {
     if words > output.len() {
-        put(b"output too short\n");
+        put(out, b"output too short\n");
         return;
     }
-    put(b"output");
-    put_words(&output[..words]);
-    put_kept(b" rest", is_untouched(&output[words..]));
-    end_line();
+    put(out, b"output");
+    put_words(out, &output[..words]);
+    put_kept(out, b" rest", is_untouched(&output[words..]));
+    end_line(out);
 }
 
 // A text in a buffer, and whether the bytes after it are as they were.
-pub fn show_text(text: &[u8], length: usize) {
+pub fn show_text(out: &impl Print, text: &[u8], length: usize) {
     if length > text.len() {
-        put(b"text too short\n");
+        put(out, b"text too short\n");
         return;
     }
-    put(&text[..length]);
-    put_kept(b"rest", is_blank(&text[length..]));
-    end_line();
+    put(out, &text[..length]);
+    put_kept(out, b"rest", is_blank(&text[length..]));
+    end_line(out);
 }
 
 // The first words of an arena, in a line.
-pub fn show_words(arena: &[u32], words: usize) {
+pub fn show_words(out: &impl Print, arena: &[u32], words: usize) {
     if words > arena.len() {
-        put(b"arena too short\n");
+        put(out, b"arena too short\n");
         return;
     }
-    put(b"words");
-    put_row(&arena[..words]);
-    end_line();
+    put(out, b"words");
+    put_row(out, &arena[..words]);
+    end_line(out);
 }

@@ -3,39 +3,37 @@ use crate::print::{put, put_next, put_word};
 use crate::record::{BACK, FORWARD, PLACES, word};
 
 // The back word of a record, where it is not the record before it.
-fn put_other_back(arena: &[u32], record: u32, before: u32) {
+fn put_other_back(out: &impl Print, arena: &[u32], record: u32, before: u32) {
     let back = word(arena, record, BACK);
     if back != before {
-        put_word(b" but back of ", record);
-        put_word(b" is ", back);
+        put_word(out, b" but back of ", record);
+        put_word(out, b" is ", back);
     }
 }
 
 // The same of each record that the walk meets, and at its end of the head, whose back word is the last one. No reading call
 // is asked. Answers the place after the last one.
-pub fn put_other_backs(arena: &[u32]) -> u32 {
+pub fn put_other_backs(out: &impl Print, arena: &[u32]) -> u32 {
     let mut record = word(arena, 0, FORWARD);
     let mut before = 0;
-    let mut place = 1;
-    while place <= PLACES {
-        put_other_back(arena, record, before);
+    for place in 1..=PLACES {
+        put_other_back(out, arena, record, before);
         if record == 0 {
             return place;
         }
         before = record;
         record = word(arena, record, FORWARD);
-        place += 1;
     }
-    put(b" but no end");
-    place
+    put(out, b" but no end");
+    PLACES + 1
 }
 
 // What the reading call gives at a place from the low end, where that is not what it gave from the top.
-pub fn put_other_low(arena: &[u32], place: u32, top: maxplus::Reading) {
+pub fn put_other_low(out: &impl Print, arena: &[u32], place: u32, top: maxplus::Reading) {
     let low = maxplus::read_low(arena, place);
     if low.number != top.number || low.m != top.m || low.p != top.p {
-        put_word(b" but low ", low.number);
-        put_next(low.m);
-        put_next(low.p);
+        put_word(out, b" but low ", low.number);
+        put_next(out, low.m);
+        put_next(out, low.p);
     }
 }

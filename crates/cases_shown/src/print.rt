@@ -1,59 +1,54 @@
-// Numbers and bytes as text on standard output.
-use libc::STDOUT_FILENO;
+// Numbers and bytes as text on an output. A write that fails is left out, and so is what it had to show.
 
-pub fn put(text: &[u8]) {
-    io::write_all(STDOUT_FILENO, text);
+pub fn put(out: &impl Print, text: &[u8]) {
+    let _ = out.write_all(text);
 }
 
-fn put_number(number: u64) {
-    io::print_decimal(STDOUT_FILENO, number);
+fn put_number(out: &impl Print, number: u64) {
+    let _ = out.print(number);
 }
 
 // A word in decimal, after a separator.
-pub fn put_word(separator: &[u8], word: u32) {
-    put(separator);
-    put_number(word as u64);
+pub fn put_word(out: &impl Print, separator: &[u8], word: u32) {
+    put(out, separator);
+    put_number(out, u64::from(word));
 }
 
 // A word in decimal, after a blank.
-pub fn put_next(word: u32) {
-    put_word(b" ", word);
+pub fn put_next(out: &impl Print, word: u32) {
+    put_word(out, b" ", word);
 }
 
 // A count in decimal, after a blank.
-pub fn put_count(count: usize) {
-    put(b" ");
-    put_number(count as u64);
+pub fn put_count(out: &impl Print, count: usize) {
+    put(out, b" ");
+    put_number(out, count as u64);
 }
 
-pub fn end_line() {
-    put(b"\n");
+pub fn end_line(out: &impl Print) {
+    put(out, b"\n");
 }
 
 // The sum of words that are not shown.
-pub fn put_sum(sum: u64) {
-    put(b" sum ");
-    put_number(sum);
+pub fn put_sum(out: &impl Print, sum: u64) {
+    put(out, b" sum ");
+    put_number(out, sum);
 }
 
 // Words, with a blank before each.
-pub fn put_row(words: &[u32]) {
-    let mut i = 0;
-    while i < words.len() {
-        put_next(words[i]);
-        i += 1;
+pub fn put_row(out: &impl Print, words: &[u32]) {
+    for word in words {
+        put_next(out, *word);
     }
 }
 
-fn put_byte(byte: u8) {
-    io::print_hex(STDOUT_FILENO, byte as u64, 2);
+fn put_byte(out: &impl Print, byte: u8) {
+    let _ = print!(out; "{byte:02x}");
 }
 
 // Bytes in hexadecimal.
-pub fn put_bytes(bytes: &[u8]) {
-    let mut i = 0;
-    while i < bytes.len() {
-        put_byte(bytes[i]);
-        i += 1;
+pub fn put_bytes(out: &impl Print, bytes: &[u8]) {
+    for byte in bytes {
+        put_byte(out, *byte);
     }
 }
