@@ -83,11 +83,7 @@ fn put_run(bytes: &mut [u8], start: usize, byte: u8, times: u32) -> usize
     ensures { result ≤ length bytes.new }
 {
     let end = start + at_most(times, bytes.len() - start);
-    let mut at = start;
-    while at < end {
-        bytes[at] = byte;
-        at += 1;
-    }
+    bytes[start..end].fill(byte);
     end
 }
 

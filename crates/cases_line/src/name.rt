@@ -7,14 +7,12 @@ use cases_shown::print::put;
 fn name_end(text: &[u8]) -> usize
     ensures { result ≤ length text.now }
 {
-    let mut at = 0;
-    while at < text.len() {
-        if text[at] == b':' {
+    for (at, byte) in text.iter().enumerate() {
+        if *byte == b':' {
             return at + 1;
         }
-        at += 1;
     }
-    at
+    text.len()
 }
 
 // Prints the name of a case, and answers the place after its colon.

@@ -23,7 +23,7 @@ pub struct Numbers {
 pub fn code(byte: u8) -> u64
     ensures { result < 256 }
 {
-    byte as u64
+    u64::from(byte)
 }
 
 // What a byte stands for as a digit: 10 or more if it is none.
@@ -37,17 +37,11 @@ pub fn digit(byte: u8) -> u64
     found - 48
 }
 
-fn wide(word: u32) -> u64
-    ensures { result < 4_294_967_296 }
-{
-    word as u64
-}
-
 // A number with one digit more, cut to 32 bits.
 fn with_digit(value: u32, next: u64) -> u32
     requires { next < 10 }
 {
-    ((10 * wide(value) + next) % 4_294_967_296) as u32
+    ((10 * u64::from(value) + next) % 4_294_967_296) as u32
 }
 
 // The number at a place of a text: 0 where no digit stands there.
@@ -56,16 +50,17 @@ pub fn number_at(text: &[u8], start: usize) -> Number
     ensures { (start ≤ result.end) × (result.end ≤ length text.now) }
 {
     let mut value = 0;
-    let mut at = start;
-    while at < text.len() {
+    for at in start..text.len() {
         let next = digit(text[at]);
         if next > 9 {
             return Number { value, end: at };
         }
         value = with_digit(value, next);
-        at += 1;
     }
-    Number { value, end: at }
+    Number {
+        value,
+        end: text.len(),
+    }
 }
 
 // The place after a sign, where there is one.
