@@ -1,17 +1,11 @@
 // The words that the bytes of a case's file are: four bytes a word, the high byte first.
-ghost use Rattle.std.specs.Prelude.{◌+◌, ◌*◌, ◌≤◌, ◌<◌, length};
+ghost use Rattle.std.specs.Prelude.{◌+◌, ◌*◌, ◌≤◌, length};
 
 use cases_line::number::code;
 
-fn wide(word: u32) -> u64
-    ensures { result < 4_294_967_296 }
-{
-    word as u64
-}
-
 // A word with one byte more at its low end, cut to 32 bits.
 fn with_byte(word: u32, byte: u8) -> u32 {
-    ((256 * wide(word) + code(byte)) % 4_294_967_296) as u32
+    ((256 * u64::from(word) + code(byte)) % 4_294_967_296) as u32
 }
 
 // The byte at a place, and 0 past the end.
@@ -54,10 +48,8 @@ pub fn take_words(bytes: &[u8], words: &mut [u32]) -> usize
     ensures { result ≤ length words.new }
 {
     let count = word_count(bytes, words.len());
-    let mut k = 0;
-    while k < count {
+    for k in 0..count {
         words[k] = word_in(bytes, k);
-        k += 1;
     }
     count
 }
