@@ -30,6 +30,7 @@ fn not_read() -> Reply
 }
 
 // What `faces` says of the bytes that came into a room.
+#[tactic(auto, unfolding(crate::specs::Reply::RepliesBy))]
 pub fn faces_reply(input: Input, room: &[u8], text: &mut [u8]) -> Reply
     requires { IsPrefixLen input.length room.now }
     ensures replies { Replies FacesText input room.now text.old text.new result }
@@ -46,6 +47,7 @@ pub fn faces_reply(input: Input, room: &[u8], text: &mut [u8]) -> Reply
 }
 
 // What `material` says of them.
+#[tactic(auto, unfolding(crate::specs::Reply::RepliesBy))]
 pub fn material_reply(input: Input, room: &[u8], text: &mut [u8]) -> Reply
     requires { IsPrefixLen input.length room.now }
     ensures replies { Replies MaterialText input room.now text.old text.new result }
