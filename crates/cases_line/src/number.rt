@@ -37,11 +37,17 @@ pub fn digit(byte: u8) -> u64
     found - 48
 }
 
+fn wide(word: u32) -> u64
+    ensures { result < 4_294_967_296 }
+{
+    u64::from(word)
+}
+
 // A number with one digit more, cut to 32 bits.
 fn with_digit(value: u32, next: u64) -> u32
     requires { next < 10 }
 {
-    ((10 * u64::from(value) + next) % 4_294_967_296) as u32
+    ((10 * wide(value) + next) % 4_294_967_296) as u32
 }
 
 // The number at a place of a text: 0 where no digit stands there.

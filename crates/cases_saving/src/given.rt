@@ -1,11 +1,17 @@
 // The words that the bytes of a case's file are: four bytes a word, the high byte first.
-ghost use Rattle.std.specs.Prelude.{◌+◌, ◌*◌, ◌≤◌, length};
+ghost use Rattle.std.specs.Prelude.{◌+◌, ◌*◌, ◌≤◌, ◌<◌, length};
 
 use cases_line::number::code;
 
+fn wide(word: u32) -> u64
+    ensures { result < 4_294_967_296 }
+{
+    u64::from(word)
+}
+
 // A word with one byte more at its low end, cut to 32 bits.
 fn with_byte(word: u32, byte: u8) -> u32 {
-    ((256 * u64::from(word) + code(byte)) % 4_294_967_296) as u32
+    ((256 * wide(word) + code(byte)) % 4_294_967_296) as u32
 }
 
 // The byte at a place, and 0 past the end.
