@@ -85,7 +85,7 @@ PROGRAMS = [
     ("filter/src/reply.rt", "material_reply"),
 ]
 
-IMPORT = re.compile(r"^(?:ghost |pub )*use Rattle·(\w+)(?:·\w+)?\.(specs|proofs)\.((?:inside\.)?\w+)\.\{([^}]*)\}", re.M)
+IMPORT = re.compile(r"^(?:ghost |pub )*use Rattle\.(\w+)\.(specs|proofs)\.((?:inside\.)?\w+)\.\{([^}]*)\}", re.M)
 HEAD = re.compile(r"^(?:(?:pub|abbrev|unfoldable|data|record) )*([^\s(){}:;]+)\s")
 WORD = re.compile(r"[^\s(){}.;,⌜⌝]+")
 
@@ -128,7 +128,7 @@ def file_at(path):
 
 def clauses(path, call):
     """The clauses of a public function."""
-    after = file_at(path).text.split(f"pub fn {call}(", 1)[1]
+    after = re.split(rf"pub fn {call}[(<]", file_at(path).text, maxsplit=1)[1]
     return after[: after.index("\n{")]
 
 
