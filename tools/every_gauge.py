@@ -1,6 +1,6 @@
 #!/usr/bin/env python3
-"""Runs the reader on every lone gauge of a few sizes at the ends of their limits through target/bin/cases, and compares
-what it answers with document 01.
+"""Runs the reader on every lone gauge of a few sizes at the ends of their limits through `cases`, and compares what it
+answers with document 01.
 
     python3 tools/every_gauge.py
 

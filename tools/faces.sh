@@ -95,11 +95,12 @@ while [ $# -gt 0 ]; do
     esac
 done
 
-binary=$root/target/bin/$program
+binary=$root/crates/$program/out/$program
 [ -f "$root/crates/$program/src/main.rt" ] ||
     stop "$program: no such program; name one that has crates/PROGRAM/src/main.rt, such as faces or material"
-[ -x "$binary" ] || (cd "$root" && rt check "$program") >&2 </dev/null ||
-    stop "$program: not proved and built; rt check $program says why"
+# rt runs what it has built: here on nothing, and what it prints is let go. Its status may then be the program's own.
+[ -x "$binary" ] || (cd "$root/crates/$program" && rt run) >/dev/null </dev/null || [ -x "$binary" ] ||
+    stop "$program: not proved and built; rt run in crates/$program says why"
 errors=$(mktemp) || exit 2
 trap 'rm -f "$errors"' EXIT
 

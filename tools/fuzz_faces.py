@@ -4,10 +4,10 @@ models'.
 
     python3 tools/fuzz_faces.py --files 100000 --seed 1
 
-Each file goes to target/bin/faces and to target/bin/material, one process a file, and three times to target/bin/cases,
-one process for many files: the reader, the text of `faces`, and the list, fit, catalogue, sheet, levels or gauge-bytes
-call, the text of `material`, the reading of the file to words, or the same and the words written again, drawn at random.
-It prints how many ran and how many differ, and exits 1 on any difference, crash or hang.
+Each file goes to `faces` and to `material`, one process a file, and three times to `cases`, one process for many files:
+the reader, the text of `faces`, and the list, fit, catalogue, sheet, levels or gauge-bytes call, the text of `material`,
+the reading of the file to words, or the same and the words written again, drawn at random. It prints how many ran and
+how many differ, and exits 1 on any difference, crash or hang. `rt run` in the folder of each of the three has built it.
 """
 
 import argparse
@@ -22,8 +22,8 @@ sys.dont_write_bytecode = True
 from making import case, random_cases, random_faces, running
 from models import fit_model, list_model, sheet_model, text_model
 
-FACES_PROGRAM = running.ROOT / "target" / "bin" / "faces"
-MATERIAL_PROGRAM = FACES_PROGRAM.with_name("material")
+FACES_PROGRAM = running.program("faces")
+MATERIAL_PROGRAM = running.program("material")
 
 # The files that go to one process of cases.
 BLOCK = 2500

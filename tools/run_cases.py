@@ -1,5 +1,5 @@
 #!/usr/bin/env python3
-"""Runs pseudo-random cases of every call through target/bin/cases, and compares all that it prints with the documents.
+"""Runs pseudo-random cases of every call through `cases`, and compares all that it prints with the documents.
 
     python3 tools/run_cases.py --cases 5000 --seed 1    runs them, and exits 1 if any answer differs
     python3 tools/run_cases.py --cases 5000 --call save    the same of one call alone

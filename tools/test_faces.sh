@@ -7,8 +7,9 @@
 # case, a file without permission, is left out for a user who may read every file.
 root=$(cd "$(dirname "$0")/.." && pwd)
 cd "$root" || exit 1
-[ -x target/bin/faces ] || rt check faces >&2 || exit 1
-[ -x target/bin/material ] || rt check material >&2 || exit 1
+for program in faces material; do
+    [ -x crates/$program/out/$program ] || (cd crates/$program && rt run) >/dev/null </dev/null || exit 1
+done
 work=$(mktemp -d)
 trap 'rm -rf "$work"' EXIT
 passed=0
@@ -129,44 +130,44 @@ told() {
 }
 
 # A shell command with reads or writes that fail.
-faulty='LD_PRELOAD=$F target/bin/faces'
+faulty='LD_PRELOAD=$F crates/faces/out/faces'
 input='faces: standard input:'
 output='faces: standard output:'
 
 echo "The program faces:"
-tried "document 01's example" 0 "$work/example.text" "" 'target/bin/faces <$EXAMPLE'
-tried "the largest face" 0 crates/faces/stdout "" 'target/bin/faces <$LARGEST'
-tried "a file longer than what is read" 0 crates/faces_long/stdout "" 'target/bin/faces <$LONGER'
+tried "document 01's example" 0 "$work/example.text" "" 'crates/faces/out/faces <$EXAMPLE'
+tried "the largest face" 0 crates/faces/stdout "" 'crates/faces/out/faces <$LARGEST'
+tried "a file longer than what is read" 0 crates/faces_long/stdout "" 'crates/faces/out/faces <$LONGER'
 tried "a face in pieces through a pipe" 0 "$work/example.text" "" \
-    '(head -c 9 $EXAMPLE; sleep 0.2; tail -c +10 $EXAMPLE) | target/bin/faces'
+    '(head -c 9 $EXAMPLE; sleep 0.2; tail -c +10 $EXAMPLE) | crates/faces/out/faces'
 tried "a face byte by byte" 0 crates/faces/stdout "" "READ_MOST=1 $faulty <\$LARGEST"
-tried "a pipe that never ends" 0 crates/faces_long/stdout "" '(cat $LARGEST; cat /dev/zero) | target/bin/faces'
+tried "a pipe that never ends" 0 crates/faces_long/stdout "" '(cat $LARGEST; cat /dev/zero) | crates/faces/out/faces'
 tried "a read that is interrupted" 0 "$work/example.text" "" "INTERRUPTS=3 READ_MOST=10 $faulty <\$EXAMPLE"
-tried "standard input closed" - "$work/nothing" "$input Bad file descriptor" 'target/bin/faces <&-'
-tried "a directory" - "$work/nothing" "$input Is a directory" 'target/bin/faces <crates'
+tried "standard input closed" - "$work/nothing" "$input Bad file descriptor" 'crates/faces/out/faces <&-'
+tried "a directory" - "$work/nothing" "$input Is a directory" 'crates/faces/out/faces <crates'
 tried "a read that fails at once" - "$work/nothing" "$input Input/output error" "READ_FAILS=0 $faulty <\$EXAMPLE"
 tried "a read that fails after 20 bytes" - "$work/nothing" "$input Input/output error" "READ_FAILS=20 $faulty <\$EXAMPLE"
 tried "a read that fails after a whole face" - "$work/nothing" "$input Input/output error" "READ_FAILS=28 $faulty <\$EXAMPLE"
 tried "a read that would fail after 4,096 bytes" 0 crates/faces_long/stdout "" "READ_FAILS=4096 $faulty <\$LONGER"
-tried "a full disk" - - "$output No space left on device" 'target/bin/faces <$EXAMPLE >/dev/full'
-tried "standard output closed" - - "$output Bad file descriptor" 'target/bin/faces <$EXAMPLE >&-'
+tried "a full disk" - - "$output No space left on device" 'crates/faces/out/faces <$EXAMPLE >/dev/full'
+tried "standard output closed" - - "$output Bad file descriptor" 'crates/faces/out/faces <$EXAMPLE >&-'
 tried "a write in pieces" 0 crates/faces/stdout "" "WRITE_MOST=100 $faulty <\$LARGEST"
 tried "a write that fails after 100 bytes" - - "$output Input/output error" "WRITE_FAILS=100 $faulty <\$LARGEST"
 
 echo "The program material:"
-faulty='LD_PRELOAD=$F target/bin/material'
+faulty='LD_PRELOAD=$F crates/material/out/material'
 input='material: standard input:'
 output='material: standard output:'
-tried "document 01's example" 0 "$work/example.sheet" "" 'target/bin/material <$EXAMPLE'
-tried "a face of 64 gauges" 0 crates/material/stdout "" 'target/bin/material <$MIXED'
-tried "a refused file" 0 "$work/short.text" "" 'target/bin/material <$WORK/short'
-tried "a file longer than what is read" 0 crates/faces_long/stdout "" 'target/bin/material <$LONGER'
+tried "document 01's example" 0 "$work/example.sheet" "" 'crates/material/out/material <$EXAMPLE'
+tried "a face of 64 gauges" 0 crates/material/stdout "" 'crates/material/out/material <$MIXED'
+tried "a refused file" 0 "$work/short.text" "" 'crates/material/out/material <$WORK/short'
+tried "a file longer than what is read" 0 crates/faces_long/stdout "" 'crates/material/out/material <$LONGER'
 tried "a face byte by byte" 0 crates/material/stdout "" "READ_MOST=1 $faulty <\$MIXED"
 tried "a read that is interrupted" 0 "$work/example.sheet" "" "INTERRUPTS=3 READ_MOST=10 $faulty <\$EXAMPLE"
-tried "standard input closed" - "$work/nothing" "$input Bad file descriptor" 'target/bin/material <&-'
+tried "standard input closed" - "$work/nothing" "$input Bad file descriptor" 'crates/material/out/material <&-'
 tried "a read that fails after a whole face" - "$work/nothing" "$input Input/output error" "READ_FAILS=28 $faulty <\$EXAMPLE"
 tried "a read that would fail after 4,096 bytes" 0 crates/faces_long/stdout "" "READ_FAILS=4096 $faulty <\$LONGER"
-tried "a full disk" - - "$output No space left on device" 'target/bin/material <$EXAMPLE >/dev/full'
+tried "a full disk" - - "$output No space left on device" 'crates/material/out/material <$EXAMPLE >/dev/full'
 tried "a write in pieces" 0 crates/material/stdout "" "WRITE_MOST=100 $faulty <\$MIXED"
 tried "a write that fails after 100 bytes" - - "$output Input/output error" "WRITE_FAILS=100 $faulty <\$MIXED"
 
@@ -240,13 +241,13 @@ told "a full disk" 2 "material: $full" "$run \$EXAMPLE >/dev/full"
 # A tree with programs that are shell commands: quiet prints nothing; loud prints a line of what it read, and a warning.
 # Its rt proves nothing, reads all of standard input, and makes a copy of loud, but not of broken.
 stub=$work/stub
-mkdir -p "$stub"/{tools,bin,target/bin} "$stub"/crates/{quiet,loud,later,broken}/src
+mkdir -p "$stub"/{tools,bin} "$stub"/crates/{quiet,loud,later,broken}/{src,out}
 for program in quiet loud later broken; do : >"$stub/crates/$program/src/main.rt"; done
 cp tools/faces.sh "$stub/tools"
-printf '#!/bin/sh\ncat >/dev/null\n' >"$stub/target/bin/quiet"
-printf '#!/bin/sh\necho "<svg> $(wc -c)"\necho "loud: a warning" >&2\n' >"$stub/target/bin/loud"
-printf '#!/bin/sh\ncat\necho "rt $*"\n[ "$2" != broken ] && cp target/bin/loud target/bin/$2\n' >"$stub/bin/rt"
-chmod +x "$stub"/bin/rt "$stub"/target/bin/*
+printf '#!/bin/sh\ncat >/dev/null\n' >"$stub/crates/quiet/out/quiet"
+printf '#!/bin/sh\necho "<svg> $(wc -c)"\necho "loud: a warning" >&2\n' >"$stub/crates/loud/out/loud"
+printf '#!/bin/sh\ncat\nname=${PWD##*/}\necho "rt $* in $name" >&2\n[ $name != broken ] && cp ../loud/out/loud out/$name\n' >"$stub/bin/rt"
+chmod +x "$stub"/bin/rt "$stub"/crates/*/out/*
 echo "<svg> 28" >"$work/loud.text"
 
 echo "tools/faces.sh with programs to come:"
@@ -254,7 +255,7 @@ run='PATH=$WORK/stub/bin:$PATH bash $WORK/stub/tools/faces.sh'
 told "no answer" 2 "quiet: $example: no answer" "$run -p quiet \$EXAMPLE"
 told "no answer, standard input" 2 "quiet: standard input: no answer" "$run -p quiet <\$EXAMPLE"
 tried "a text of another kind, with a warning" 0 "$work/loud.text" "loud: a warning" "$run -p loud \$EXAMPLE"
-tried "a program that is built first" 0 "$work/loud.text" "rt check later" "$run -p later <\$EXAMPLE"
+tried "a program that is built first" 0 "$work/loud.text" "rt run in later" "$run -p later <\$EXAMPLE"
 tried "the same once more" 0 "$work/loud.text" "loud: a warning" "$run -p later <\$EXAMPLE"
 tried "a program that cannot be built" 2 "$work/nothing" "faces.sh: broken: not proved and built" "$run -p broken"
 
@@ -298,7 +299,7 @@ made='$WORK/made/out'
 left='; ended=$?; ls -A $WORK/made; find $WORK/made -mindepth 1 -delete; exit $ended'
 tried "document 01's example is written" 0 "$work/two.face" "" "$face write examples/two-gauges.txt $made && cat $made"
 tried "and nothing beside it" 0 "$work/two.face" "" "ls -A \$WORK/made | grep -vx out; cat $made"
-tried "its smallest face" 0 "$work/example.text" "" "target/bin/faces <$made"
+tried "its smallest face" 0 "$work/example.text" "" "crates/faces/out/faces <$made"
 tried "it is read" 0 "$work/two.txt" "" "$face read $made"
 tried "it is read to a file" 0 "$work/two.txt" "" "$face read $made \$WORK/read.txt && cat \$WORK/read.txt"
 tried "and written again" 0 "$work/two.face" "" "$face write \$WORK/read.txt -"
@@ -309,7 +310,7 @@ tried "a text as some editors write it" 0 "$work/two.face" "" "$face write \$WOR
 tried "standard input and output, written" 0 "$work/two.face" "" "$face write - - <\$WORK/two.txt"
 tried "standard input and output, read" 0 "$work/two.txt" "" "cat \$EXAMPLE | $face read - -"
 tried "the largest face, written again" 0 crates/faces/stdout "" \
-    "$face read \$LARGEST | $face write - - | target/bin/faces"
+    "$face read \$LARGEST | $face write - - | crates/faces/out/faces"
 tried "the dashboard through faces" 0 "$work/dashboard.text" "" \
     "$face write examples/dashboard.txt - | bash tools/faces.sh"
 tried "the dashboard through material" 0 "$work/dashboard.sheet" "" \

@@ -6,7 +6,14 @@ import subprocess
 import sys
 
 ROOT = pathlib.Path(__file__).resolve().parent.parent.parent
-PROGRAM = ROOT / "target" / "bin" / "cases"
+
+
+def program(name):
+    """Where `rt run` in the folder of a crate leaves the program."""
+    return ROOT / "crates" / name / "out" / name
+
+
+PROGRAM = program("cases")
 
 # The first line of each answer has the name of its case before a colon; no other line has one.
 ANSWER = re.compile(r"^(?=[^:\n]+: )", re.MULTILINE)
