@@ -1,33 +1,37 @@
 #!/usr/bin/env python3
-"""Prints the seconds of a run of the gate, crate by crate, as a Markdown table for docs/TESTING.md and landing notes.
+"""Prints what a run of the gate proved and refused, crate by crate, as a Markdown table for landing notes.
 
     bash .ci/run | tee LOG
-    python3 tools/gate_seconds.py LOG                        prints every crate of one run
-    python3 tools/gate_seconds.py BEFORE LOG [CRATE...]      prints what changed between two runs, side by side
+    python3 tools/gate_counts.py LOG                        prints every crate of one run
+    python3 tools/gate_counts.py BEFORE LOG [CRATE...]      prints what changed between two runs, side by side
 
-A crate has the seconds of its proof and, where it has must-fail edits, their number and their seconds together. The first
-argument, and a second where there is one, are logs; those after them are names of crates. Of two runs the table has the
-crates that only one of them has, those with another number of edits, and those that are named, such as crates whose code
-changed; then the others in one row, and all of them together.
+A crate has the number of its functions that the run proved, which is not told of a crate that is kept from an earlier
+run on the machine, and where it has must-fail edits the number of those that were refused. The kit prints no times; `time
+bash .ci/run` tells that of the whole. The first argument, and a second where there is one, are logs; those after them are
+names of crates. Of two runs the table has the crates that only one of them has, those with another number of edits, and
+those that are named, such as crates whose code changed; then the others in one row, and all of them together.
 """
 
 import pathlib
 import re
 import sys
 
-PROVED = re.compile(r"^rt: (\w+) proved \((\d+) s\)", re.M)
-REFUSED = re.compile(r"^rt: must-fail (\w+)/\w+: refused, as it must be \(.*?(\d+) s\)", re.M)
-COLUMNS = ["seconds to prove", "must-fail edits", "seconds for them"]
-NOTHING = [0, 0, 0]
+PROVED = re.compile(r"^rt: (\w+) (?:proved$|is kept: )", re.M)
+FUNCTIONS = re.compile(r"^== (\w+)\n(?:(?!== |rt: ).*\n)*?logic=proved functions=(\d+) ", re.M)
+REFUSED = re.compile(r"^rt: must-fail (\w+)/\S+: refused, as it must be", re.M)
+COLUMNS = ["functions proved", "must-fail edits refused"]
+NOTHING = [0, 0]
 
 
-def seconds(path):
-    """The three numbers of each crate of a run."""
+def counts(path):
+    """The two numbers of each crate of a run."""
     text = pathlib.Path(path).read_text()
-    rows = {crate: [int(took), 0, 0] for crate, took in PROVED.findall(text)}
-    for crate, took in REFUSED.findall(text):
+    rows = {crate: [0, 0] for crate in PROVED.findall(text)}
+    for crate, functions in FUNCTIONS.findall(text):
+        if crate in rows:
+            rows[crate][0] = int(functions)
+    for crate in REFUSED.findall(text):
         rows[crate][1] += 1
-        rows[crate][2] += int(took)
     return rows
 
 
@@ -57,7 +61,7 @@ def table(runs, named):
 def main():
     if len(sys.argv) < 2:
         sys.exit(__doc__.strip())
-    runs, named = [seconds(path) for path in sys.argv[1:3]], sys.argv[3:]
+    runs, named = [counts(path) for path in sys.argv[1:3]], sys.argv[3:]
     unknown = [crate for crate in named if not any(crate in run for run in runs)]
     if unknown:
         sys.exit(f"in neither run: {', '.join(unknown)}")
