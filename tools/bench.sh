@@ -5,8 +5,8 @@
 #     bash tools/bench.sh            prints them, and last the lines that the page has otherwise
 #     bash tools/bench.sh --write    puts them into the page
 #
-# It needs x86-64, the Rattle kit (rt), gcc, valgrind and python3. Where the crates are proved (`rt check`) it takes
-# under three minutes on two cores. A first run on a fresh clone also proves them.
+# It needs x86-64, the Rattle kit (rt), gcc, valgrind and python3. Where the crates are proved (`rt check`) it takes some
+# minutes. A first run on a fresh clone also proves them.
 #
 # bench/rattle.rt.txt makes a static library of the proved calls, bench/catalogue.rt.txt one of the catalogue call and
 # bench/sheet.rt.txt one of the sheet call. Each C program of bench/ links one of them, once compiled by gcc and once by
@@ -34,7 +34,7 @@ saved='row-of-64 mixed-64 balanced-64 mixed-64-repeated lopsided-of-8'
 rib=20
 page=docs/BENCHMARKS.md
 kit=$(dirname "$(dirname "$(readlink -f "$(command -v rt)")")")
-clang=$kit/on/x86_64/toolchain/bin/clang
+clang=$kit/toolchain/bin/clang
 by_gcc="gcc $(gcc -dumpversion | cut -d. -f1)"
 by_clang="clang $("$clang" -dumpversion | cut -d. -f1)"
 work=$(mktemp -d)
@@ -47,33 +47,34 @@ quietly() { # FILE COMMAND WORD...
 
 # ---- the programs
 
-# Proves the crates and makes copies of them in a temporary folder. What target/ has proved is not proved again.
+# Proves and builds the program faces, and makes copies of the crates in a temporary folder. There rt begins with what
+# was proved here.
 copy_crates() {
-    quietly said rt check fit catalogue materialsheet saving faces
-    mkdir -p "$work/target"
-    cp -R crates crates.txt "$work"
-    cp -R target/rlib target/stamp "$work/target"
+    (cd crates/faces && quietly said rt run </dev/null)
+    tar -c --exclude=out crates crates.txt | tar -x -C "$work"
 }
 
 # Proves there, beside the copies, a crate of exported calls, and makes a static library of it.
 make_library() { # NAME FILE DEP...
     mkdir -p "$work/crates/$1/src"
     cp "$2" "$work/crates/$1/src/lib.rt"
-    echo "$1: ${*:3}" >>"$work/crates.txt"
-    (cd "$work" && quietly said rt staticlib "$1")
+    echo "$1 staticlib: ${*:3}" >>"$work/crates.txt"
+    (cd "$work/crates/$1" && quietly said rt lib)
 }
 
 # Links the levels call alone, without the C library.
 link_levels() {
     cat >"$work/levels.rt" <<'END'
-#[no_mangle]
+#![tactic(auto)]
+
+#[unsafe(no_mangle)]
 pub extern "C" fn levels_call(file: &[u8], levels: &mut [u8]) -> u32 {
     levels::fill(file, levels)
 }
 END
     make_library levels_alone "$work/levels.rt" levels
     gcc -nostdlib -static-pie -Wl,--gc-sections,-u,levels_call,-e,levels_call,--unresolved-symbols=ignore-all \
-        -o "$work/levels" "$work/target/staticlib/liblevels_alone.a"
+        -o "$work/levels" "$work/crates/levels_alone/out/liblevels_alone.a"
 }
 
 # The kit's clang has no headers of its own: it takes those of gcc.
@@ -94,7 +95,7 @@ compile() { # PROGRAM LIBRARY FILE...
         for file in "${@:3}"; do
             run_compiler $compiler -c -o "$work/$1-$compiler.objects/$file.o" "bench/$file"
         done
-        gcc -Wl,-z,now -o "$work/$1-${compiler:0:3}" "$work/$1-$compiler.objects"/*.o "$work/target/staticlib/lib$2.a"
+        gcc -Wl,-z,now -o "$work/$1-${compiler:0:3}" "$work/$1-$compiler.objects"/*.o "$work/crates/$2/out/lib$2.a"
     done
 }
 
@@ -146,7 +147,7 @@ profile_sheets() { # FACE...
 }
 
 profile_process() {
-    count process target/bin/faces <"$work/$read_face.fce" >"$work/process.printed"
+    count process crates/faces/out/faces <"$work/$read_face.fce" >"$work/process.printed"
 }
 
 profile_all() {
