@@ -51,11 +51,12 @@ text_of() {
 }
 
 # Says why a file was not read or written. The reason is in $errors, after the last colon of what the program said, or
-# the shell where it could not open the file.
+# the shell where it could not open the file. The program has the system's number behind it.
 tell() { # NAME
     local reason
     reason=$(<"$errors")
     reason=${reason##*: }
+    reason=${reason% (os error *}
     echo "$program: $1: ${reason:-no answer}" >&2
 }
 

@@ -104,14 +104,13 @@ cat "$work/both.text" >>"$work/dash.text"
 : >"$work/nothing"
 
 # tried NAME STATUS TEXT WORDS COMMAND: runs a shell command, whose standard output has to be the file TEXT unless that is
-# -, whose standard error has to have WORDS in it, or be empty where they are, and whose status has to be STATUS unless
-# that is -.
+# -, whose standard error has to have WORDS in it, or be empty where they are, and whose status has to be STATUS.
 tried() {
     local said=pass
     F="$work/faults.so" EXAMPLE=$example LARGEST=$largest MIXED=$mixed LONGER=$longer WORK=$work timeout 60 \
         bash -c "$5" >"$work/out" 2>"$work/err"
     local status=$?
-    [ "$2" = - ] || [ "$status" = "$2" ] || said="fail: status $status"
+    [ "$status" = "$2" ] || said="fail: status $status"
     [ "$3" = - ] || cmp -s "$work/out" "$3" || said="fail: other text"
     if [ -z "$4" ]; then
         [ ! -s "$work/err" ] || said="fail: $(head -1 "$work/err")"
@@ -143,16 +142,16 @@ tried "a face in pieces through a pipe" 0 "$work/example.text" "" \
 tried "a face byte by byte" 0 crates/faces/stdout "" "READ_MOST=1 $faulty <\$LARGEST"
 tried "a pipe that never ends" 0 crates/faces_long/stdout "" '(cat $LARGEST; cat /dev/zero) | crates/faces/out/faces'
 tried "a read that is interrupted" 0 "$work/example.text" "" "INTERRUPTS=3 READ_MOST=10 $faulty <\$EXAMPLE"
-tried "standard input closed" - "$work/nothing" "$input Bad file descriptor" 'crates/faces/out/faces <&-'
-tried "a directory" - "$work/nothing" "$input Is a directory" 'crates/faces/out/faces <crates'
-tried "a read that fails at once" - "$work/nothing" "$input Input/output error" "READ_FAILS=0 $faulty <\$EXAMPLE"
-tried "a read that fails after 20 bytes" - "$work/nothing" "$input Input/output error" "READ_FAILS=20 $faulty <\$EXAMPLE"
-tried "a read that fails after a whole face" - "$work/nothing" "$input Input/output error" "READ_FAILS=28 $faulty <\$EXAMPLE"
+tried "standard input closed" 1 "$work/nothing" "$input Bad file descriptor" 'crates/faces/out/faces <&-'
+tried "a directory" 1 "$work/nothing" "$input Is a directory" 'crates/faces/out/faces <crates'
+tried "a read that fails at once" 1 "$work/nothing" "$input Input/output error" "READ_FAILS=0 $faulty <\$EXAMPLE"
+tried "a read that fails after 20 bytes" 1 "$work/nothing" "$input Input/output error" "READ_FAILS=20 $faulty <\$EXAMPLE"
+tried "a read that fails after a whole face" 1 "$work/nothing" "$input Input/output error" "READ_FAILS=28 $faulty <\$EXAMPLE"
 tried "a read that would fail after 4,096 bytes" 0 crates/faces_long/stdout "" "READ_FAILS=4096 $faulty <\$LONGER"
-tried "a full disk" - - "$output No space left on device" 'crates/faces/out/faces <$EXAMPLE >/dev/full'
-tried "standard output closed" - - "$output Bad file descriptor" 'crates/faces/out/faces <$EXAMPLE >&-'
+tried "a full disk" 1 - "$output No space left on device" 'crates/faces/out/faces <$EXAMPLE >/dev/full'
+tried "standard output closed" 1 - "$output Bad file descriptor" 'crates/faces/out/faces <$EXAMPLE >&-'
 tried "a write in pieces" 0 crates/faces/stdout "" "WRITE_MOST=100 $faulty <\$LARGEST"
-tried "a write that fails after 100 bytes" - - "$output Input/output error" "WRITE_FAILS=100 $faulty <\$LARGEST"
+tried "a write that fails after 100 bytes" 1 - "$output Input/output error" "WRITE_FAILS=100 $faulty <\$LARGEST"
 
 echo "The program material:"
 faulty='LD_PRELOAD=$F crates/material/out/material'
@@ -164,12 +163,12 @@ tried "a refused file" 0 "$work/short.text" "" 'crates/material/out/material <$W
 tried "a file longer than what is read" 0 crates/faces_long/stdout "" 'crates/material/out/material <$LONGER'
 tried "a face byte by byte" 0 crates/material/stdout "" "READ_MOST=1 $faulty <\$MIXED"
 tried "a read that is interrupted" 0 "$work/example.sheet" "" "INTERRUPTS=3 READ_MOST=10 $faulty <\$EXAMPLE"
-tried "standard input closed" - "$work/nothing" "$input Bad file descriptor" 'crates/material/out/material <&-'
-tried "a read that fails after a whole face" - "$work/nothing" "$input Input/output error" "READ_FAILS=28 $faulty <\$EXAMPLE"
+tried "standard input closed" 1 "$work/nothing" "$input Bad file descriptor" 'crates/material/out/material <&-'
+tried "a read that fails after a whole face" 1 "$work/nothing" "$input Input/output error" "READ_FAILS=28 $faulty <\$EXAMPLE"
 tried "a read that would fail after 4,096 bytes" 0 crates/faces_long/stdout "" "READ_FAILS=4096 $faulty <\$LONGER"
-tried "a full disk" - - "$output No space left on device" 'crates/material/out/material <$EXAMPLE >/dev/full'
+tried "a full disk" 1 - "$output No space left on device" 'crates/material/out/material <$EXAMPLE >/dev/full'
 tried "a write in pieces" 0 crates/material/stdout "" "WRITE_MOST=100 $faulty <\$MIXED"
-tried "a write that fails after 100 bytes" - - "$output Input/output error" "WRITE_FAILS=100 $faulty <\$MIXED"
+tried "a write that fails after 100 bytes" 1 - "$output Input/output error" "WRITE_FAILS=100 $faulty <\$MIXED"
 
 echo "tools/faces.sh:"
 run='bash tools/faces.sh'
