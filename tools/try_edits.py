@@ -39,7 +39,7 @@ CALLS = {
     "materialtext": "mp",
 }
 
-# Only the programs `faces` and `material` reach these crates. tools/test_faces.sh tries what they do.
+# What these crates say of a read that failed only the programs `faces` and `material` ask. tools/test_faces.sh tries it.
 UNREACHED = ["input"]
 
 # The status of `rt try` where each piece came out right, and where one did not: a fault, another text or no end.
