@@ -5,5 +5,5 @@
 use std::process::ExitCode;
 
 fn main(rt: HostRuntime) -> ExitCode {
-    filter::run(rt)
+    filter::run(&rt, rt.stdin())
 }

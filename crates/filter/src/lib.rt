@@ -9,6 +9,7 @@ ghost use Rattle.std.specs.Prelude.{◌≡◌, length};
 use input::{Source, read_input};
 use reply::{faces_reply, material_reply};
 use std::io;
+use std::io::Read;
 use std::process::ExitCode;
 
 // How many bytes of a file are read at most.
@@ -47,35 +48,35 @@ fn fail(rt: &impl Eprint, what: &str, error: Option<io::Error>) -> ExitCode {
 // nothing is printed.
 //
 // Of a file longer than the buffer no more is read, as by `head`, so a program that goes on writing it is ended by SIGPIPE.
-pub fn run(rt: HostRuntime) -> ExitCode {
-    let mut source = Source::new(rt.stdin());
+pub fn run<R: Read + Drop>(rt: &(impl Print + Eprint), stdin: R) -> ExitCode {
+    let mut source = Source::new(stdin);
     let mut room = input_room();
     let input = read_input(&mut source, &mut room);
     let mut text = text_room();
     let reply = faces_reply(input, &room, &mut text);
     if !reply.read {
-        return fail(&rt, "faces: standard input", source.error());
+        return fail(rt, "faces: standard input", source.error());
     }
     let length = reply.length;
     match rt.write_all(&text[..length]) {
         Ok(()) => ExitCode::SUCCESS,
-        Err(error) => fail(&rt, "faces: standard output", Some(error)),
+        Err(error) => fail(rt, "faces: standard output", Some(error)),
     }
 }
 
 // Prints the material sheet of that face in the same way.
-pub fn run_material(rt: HostRuntime) -> ExitCode {
-    let mut source = Source::new(rt.stdin());
+pub fn run_material<R: Read + Drop>(rt: &(impl Print + Eprint), stdin: R) -> ExitCode {
+    let mut source = Source::new(stdin);
     let mut room = input_room();
     let input = read_input(&mut source, &mut room);
     let mut text = sheet_room();
     let reply = material_reply(input, &room, &mut text);
     if !reply.read {
-        return fail(&rt, "material: standard input", source.error());
+        return fail(rt, "material: standard input", source.error());
     }
     let length = reply.length;
     match rt.write_all(&text[..length]) {
         Ok(()) => ExitCode::SUCCESS,
-        Err(error) => fail(&rt, "material: standard output", Some(error)),
+        Err(error) => fail(rt, "material: standard output", Some(error)),
     }
 }

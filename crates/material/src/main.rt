@@ -5,5 +5,5 @@
 use std::process::ExitCode;
 
 fn main(rt: HostRuntime) -> ExitCode {
-    filter::run_material(rt)
+    filter::run_material(&rt, rt.stdin())
 }
