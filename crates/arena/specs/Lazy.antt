@@ -1,6 +1,6 @@
 -- Document 01, "Lazy lists", and document 02, paper 6: what a list of records in an arena holds, and when it is a lazy list.
 use Rattle.std.specs.Prelude.{ℕ, zero, suc, ◌+◌, ◌%◌, ◌^◌, Bool, true, cond, ◌&&◌, List, [], ◌∷◌, ◌++◌, ◌==◌, nat_le, nat_lt}
-use Rattle.checks.specs.Check.{LazyList}
+use Rattle.checks.specs.declared.Check.TheVariants.{LazyList}
 use Rattle.checks.specs.Limits.{most_sizes}
 use Rattle.checks.specs.Answer.{Answer, refused, taken, ask, next}
 use Rattle.slicing.specs.Recorded.{Recorded}

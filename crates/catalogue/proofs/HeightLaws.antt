@@ -10,7 +10,7 @@ use lib.ListN.{length, get_or, drop, drop_of_length-le, get_or-eq_default}
 use lib.Seq.{drop-cons}
 use lib.Dec.{leb}
 use borrow.Author.Tests.{leb-true, le-leb, lt-leb, not-true, not-false}
-use Rattle.checks.specs.Check.{Heights}
+use Rattle.checks.specs.declared.Check.TheVariants.{Heights}
 use Rattle.checks.specs.Limits.{most_heights}
 use Rattle.checks.specs.Answer.{taken, number}
 use Rattle.checks.proofs.Answers.{ask_taken}

@@ -5,7 +5,8 @@ use mathlib.Core.List.{List}
 use Prim.Native.Nat.{ℕ, ◌≤◌}
 use native.Mathlib.Omega.{arith}
 use lib.ListN.{length, drop, length-append, length-drop}
-use Rattle.checks.specs.Check.{Check, number_of}
+use Rattle.checks.specs.Check.{number_of}
+use Rattle.checks.specs.declared.Check.{Check}
 use Rattle.checks.specs.Limits.{most_sizes, most_rib, most_heights, buffer_words}
 use Rattle.checks.specs.Answer.{Answer, refused, taken, Asked, also, number}
 use Rattle.checks.proofs.Answers.{also_taken}

@@ -1,6 +1,6 @@
 -- Document 02, Paper 5: check 23, of the heights of a catalogue.
 use Rattle.std.specs.Prelude.{Bool, true, ◌&&◌, List, [], ◌∷◌, ℕ, leb, length}
-use Rattle.checks.specs.Check.{Heights}
+use Rattle.checks.specs.declared.Check.TheVariants.{Heights}
 use Rattle.checks.specs.Limits.{most_heights}
 use Rattle.checks.specs.Answer.{Asked, taken, ask}
 

@@ -4,7 +4,9 @@ use mathlib.Core.Path.{◌≡◌, refl, sym, ap, ◌∙◌}
 use mathlib.Core.Bool.{Bool, true, false}
 use Prim.Native.Nat.{ℕ, zero, suc, ◌≤◌}
 use native.Mathlib.Omega.{arith}
-use Rattle.checks.specs.Check.{Check, Length, Mark, Version, Entries, Present, Kind, SizeCount, Limits, Order, Gauges, Join, OnePart, AtEnd, LevelCount, LevelRange, Opening, Buffers, Output, Fits, LazyList, Place, Rib, Heights, number_of}
+use Rattle.checks.specs.Check.{number_of}
+use Rattle.checks.specs.declared.Check.{Check}
+use Rattle.checks.specs.declared.Check.TheVariants.{Length, Mark, Version, Entries, Present, Kind, SizeCount, Limits, Order, Gauges, Join, OnePart, AtEnd, LevelCount, LevelRange, Opening, Buffers, Output, Fits, LazyList, Place, Rib, Heights}
 use Rattle.checks.specs.Answer.{Answer, refused, taken, ask, next, Asked, also, number, first_no}
 
 -- No check has the number of a taken call.

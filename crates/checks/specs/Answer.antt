@@ -1,10 +1,11 @@
--- What a run of questions answers: the first check that was answered "no", or what was taken. Document 01: "First no wins."
-use Rattle.std.specs.Prelude.{Bool, true, false, ℕ, zero, suc}
-use Rattle.checks.specs.Check.{Check, number_of}
+-- What a run of questions answers, as the code has it: the first check that was answered "no", which is an error, or what was taken. Document 01: "First no wins."
+use Rattle.std.specs.Prelude.{Bool, true, false, ℕ, zero, suc, Result}
+pub use Rattle.std.specs.Prelude.{Err as refused, Ok as taken}
+use Rattle.checks.specs.Check.{number_of}
+use Rattle.checks.specs.declared.Check.{Check}
 
-pub data Answer (A : Type 0) : Type 0 where
-  refused : Check → Answer A
-  taken : A → Answer A
+abbrev pub Answer : Type 0 → Type 0
+Answer A = Result A Check
 
 -- One question: where it is answered "no", its check; where "yes", what follows.
 abbrev pub ask : {A : Type 0} → Bool → Check → Answer A → Answer A

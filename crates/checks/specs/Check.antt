@@ -1,53 +1,7 @@
--- Document 01, "The checks, as questions", and document 02's: the questions in the order of their numbers. The order in which a call asks them is that of the call's own definition.
+-- The numbers of the checks. The questions themselves stand at their cases, in `src/lib.rt`.
 use Rattle.std.specs.Prelude.{ℕ}
-
-pub data Check : Type 0 where
-  -- 7 bytes or more?
-  Length : Check
-  -- First three `FCE`?
-  Mark : Check
-  -- Version 1 or 2?
-  Version : Check
-  -- Entries 1 to 127?
-  Entries : Check
-  -- Kind byte present? Size-count byte present? All bytes of its sizes present?
-  Present : Check
-  -- Kind 01, 02 or 03?
-  Kind : Check
-  -- Count 1 to 8?
-  SizeCount : Check
-  -- Height and width both 1 to 1,000?
-  Limits : Check
-  -- In version 1: height less and width more than the size before?
-  Order : Check
-  -- At most the 64th?
-  Gauges : Check
-  -- Two parts on the stack?
-  Join : Check
-  -- One part left?
-  OnePart : Check
-  -- File at its end?
-  AtEnd : Check
-  -- As many levels as sizes?
-  LevelCount : Check
-  -- Each level 1 to 8?
-  LevelRange : Check
-  -- Opening height and width both 1 to 65,260?
-  Opening : Check
-  -- Arena and scratch, each 16,384 32-bit words or more?
-  Buffers : Check
-  -- Output long enough?
-  Output : Check
-  -- Does a layout fit?
-  Fits : Check
-  -- Does the arena hold a lazy list?
-  LazyList : Check
-  -- Is the place from 1 to its length?
-  Place : Check
-  -- Rib at most 20?
-  Rib : Check
-  -- At most 256 heights, each 1 or more and no more than the one before?
-  Heights : Check
+use Rattle.checks.specs.declared.Check.{Check}
+use Rattle.checks.specs.declared.Check.TheVariants.{Length, Mark, Version, Entries, Present, Kind, SizeCount, Limits, Order, Gauges, Join, OnePart, AtEnd, LevelCount, LevelRange, Opening, Buffers, Output, Fits, LazyList, Place, Rib, Heights}
 
 -- The number that a "no" answers with.
 abbrev pub number_of : Check → ℕ

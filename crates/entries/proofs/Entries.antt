@@ -9,7 +9,9 @@ use native.Mathlib.Omega.{arith}
 use lib.ListN.{length, get_or, drop, length-drop, length-append}
 use lib.Seq.{drop-drop, get_or-drop}
 use borrow.Author.Tests.{le-leb, lt-leb, lt-ltb, le-ltb, eq-eqb, ne_eqb, not-true, not-false}
-use Rattle.checks.specs.Check.{Check, SizeCount, Present, Gauges, Join, Kind, number_of}
+use Rattle.checks.specs.Check.{number_of}
+use Rattle.checks.specs.declared.Check.{Check}
+use Rattle.checks.specs.declared.Check.TheVariants.{SizeCount, Present, Gauges, Join, Kind}
 use Rattle.checks.specs.Answer.{Answer, refused, taken, next, number}
 use Rattle.checks.proofs.Answers.{number_taken, number_refused}
 use Rattle.slicing.specs.Item.{Item}

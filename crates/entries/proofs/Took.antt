@@ -7,7 +7,7 @@ use Prim.Native.Nat.{ℕ, zero, suc, ◌+◌, ◌*◌, ◌≤◌, ◌<◌}
 use lib.ListN.{length, drop}
 use lib.Dec.{leb, ltb, eqb}
 use borrow.Author.Tests.{leb-true, ltb-true, eqb-true}
-use Rattle.checks.specs.Check.{Kind, Join}
+use Rattle.checks.specs.declared.Check.TheVariants.{Kind, Join}
 use Rattle.checks.specs.Answer.{refused, taken}
 use Rattle.checks.proofs.Answers.{not_both, same_taken, ask_taken, next_taken}
 use Rattle.slicing.specs.Item.{Item}

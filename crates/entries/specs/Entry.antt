@@ -1,6 +1,6 @@
 -- Document 01, "The face file" and "The checks, as questions", entry by entry: what an entry does to the stack of parts, or the first of checks 5 to 11 that it fails. The rules are those of the file's version, or of words.
 use Rattle.std.specs.Prelude.{cond, List, [], ◌∷◌, ℕ, zero, suc, ◌+◌, ◌*◌, length, get_or, drop, leb, ltb, eqb}
-use Rattle.checks.specs.Check.{Present, Kind, SizeCount, Gauges, Join}
+use Rattle.checks.specs.declared.Check.TheVariants.{Present, Kind, SizeCount, Gauges, Join}
 use Rattle.checks.specs.Answer.{Answer, refused, taken, ask, next}
 use Rattle.slicing.specs.Item.{Item}
 use Rattle.slicing.specs.Tree.{Tree, gauge, beside, stacked}

@@ -4,7 +4,8 @@ use mathlib.Core.Path.{◌≡◌, refl, sym, ap}
 use mathlib.Core.List.{List, []}
 use Prim.Native.Nat.{ℕ, zero, suc, ◌<◌}
 use native.Mathlib.Omega.{arith}
-use Rattle.checks.specs.Check.{Check, number_of}
+use Rattle.checks.specs.Check.{number_of}
+use Rattle.checks.specs.declared.Check.{Check}
 use Rattle.checks.specs.Answer.{Answer, refused, taken}
 use Rattle.checks.proofs.Answers.{number_positive}
 use Rattle.slicing.specs.Tree.{Tree, gauge_count, size_count}

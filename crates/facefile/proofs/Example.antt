@@ -3,7 +3,7 @@
 use mathlib.Core.Path.{◌≡◌, refl}
 use mathlib.Core.List.{List, [], ◌∷◌}
 use Prim.Native.Nat.{ℕ}
-use Rattle.checks.specs.Check.{Version, Order}
+use Rattle.checks.specs.declared.Check.TheVariants.{Version, Order}
 use Rattle.checks.specs.Answer.{refused, taken}
 use Rattle.slicing.specs.Item.{size}
 use Rattle.slicing.specs.Tree.{gauge, beside}

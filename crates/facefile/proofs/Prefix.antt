@@ -10,7 +10,8 @@ use lib.ListN.{length, take, drop}
 use lib.Seq.{get_or-take, take-nil}
 use lib.Dec.{leb, ltb, eqb, leb-zero, leb-suc-suc, eqb-suc-zero}
 use borrow.Author.Tests.{ltb-true}
-use Rattle.checks.specs.Check.{Check, SizeCount, Present, Gauges}
+use Rattle.checks.specs.declared.Check.{Check}
+use Rattle.checks.specs.declared.Check.TheVariants.{SizeCount, Present, Gauges}
 use Rattle.checks.specs.Answer.{Answer, refused, taken, ask, next}
 use Rattle.checks.proofs.Answers.{next_next}
 use Rattle.slicing.specs.Item.{Item}

@@ -8,7 +8,9 @@ use native.Mathlib.Omega.{arith}
 use lib.ListN.{length, get_or, take, length-drop}
 use lib.Dec.{eqb}
 use borrow.Author.Tests.{le-leb, lt-leb, eq-eqb, ne_eqb, eqb-true, not-true, not-false}
-use Rattle.checks.specs.Check.{Check, OnePart, AtEnd, number_of}
+use Rattle.checks.specs.Check.{number_of}
+use Rattle.checks.specs.declared.Check.{Check}
+use Rattle.checks.specs.declared.Check.TheVariants.{OnePart, AtEnd}
 use Rattle.checks.specs.Answer.{Answer, refused, taken, next, number}
 use Rattle.checks.proofs.Answers.{number_taken, number_refused}
 use Rattle.slicing.specs.Tree.{Tree, gauges_of, sizes_of}

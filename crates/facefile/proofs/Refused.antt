@@ -5,7 +5,8 @@ use mathlib.Core.List.{List, [], ◌∷◌}
 use Prim.Native.Nat.{ℕ, zero, suc, ◌*◌}
 use lib.ListN.{length, get_or, drop}
 use lib.Dec.{leb, ltb, eqb}
-use Rattle.checks.specs.Check.{Check, Limits, Order, Present, Gauges, SizeCount, AtEnd, Length, Mark, Version, Entries}
+use Rattle.checks.specs.declared.Check.{Check}
+use Rattle.checks.specs.declared.Check.TheVariants.{Limits, Order, Present, Gauges, SizeCount, AtEnd, Length, Mark, Version, Entries}
 use Rattle.checks.specs.Answer.{Answer, ask}
 use Rattle.checks.proofs.Answers.{RefusedBy, ask_refused, next_refused}
 use Rattle.checks.proofs.FileChecks.{FileCheck, of_length, of_mark, of_version, of_entries, of_present, of_kind, of_size_count, of_limits, of_order, of_gauges, of_join, of_one_part, of_at_end}

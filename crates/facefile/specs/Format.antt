@@ -1,6 +1,6 @@
 -- Document 01, "The face file" and "The checks, as questions", up to check 13, with document 02's versions: any bytes, taken to the slicing tree that they mean, or refused with the first check that they fail.
 use Rattle.std.specs.Prelude.{Bool, ◌&&◌, List, [], ◌∷◌, ℕ, ◌<◌, length, get_or, drop, leb, eqb}
-use Rattle.checks.specs.Check.{Length, Mark, Version, Entries, OnePart, AtEnd}
+use Rattle.checks.specs.declared.Check.TheVariants.{Length, Mark, Version, Entries, OnePart, AtEnd}
 use Rattle.checks.specs.Answer.{Answer, refused, taken, ask, next}
 use Rattle.slicing.specs.Tree.{Tree}
 use Rattle.sizes.specs.Rules.{Rules}

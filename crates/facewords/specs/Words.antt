@@ -1,6 +1,6 @@
 -- Document 02, Paper 3: a face as "32-bit words: the number of entries, then for each its kind, and for a gauge the number of sizes and each height and width". They are the entries of a face file, with each number in a word of its own.
 use Rattle.std.specs.Prelude.{List, [], ◌∷◌, ℕ, length, get_or, drop, ltb}
-use Rattle.checks.specs.Check.{Entries, Present}
+use Rattle.checks.specs.declared.Check.TheVariants.{Entries, Present}
 use Rattle.checks.specs.Answer.{Answer, taken, ask, next}
 use Rattle.slicing.specs.Item.{Item, size}
 use Rattle.slicing.specs.Tree.{Tree}

@@ -5,7 +5,9 @@ use mathlib.Core.List.{List}
 use Prim.Native.Nat.{ℕ, ◌*◌, ◌≤◌}
 use native.Mathlib.Omega.{arith}
 use lib.ListN.{length}
-use Rattle.checks.specs.Check.{Check, Fits, number_of}
+use Rattle.checks.specs.Check.{number_of}
+use Rattle.checks.specs.declared.Check.{Check}
+use Rattle.checks.specs.declared.Check.TheVariants.{Fits}
 use Rattle.checks.specs.Limits.{most_rib, buffer_words}
 use Rattle.checks.specs.Answer.{Answer, refused, taken, Asked, also, number}
 use Rattle.checks.proofs.Answers.{number_positive, not_both, same_taken, also_taken, RefusedBy, refused_weaker, also_refused}

@@ -8,7 +8,9 @@ use native.Mathlib.Omega.{arith}
 use lib.Dec.{leb, eqb}
 use lib.ListN.{length}
 use borrow.Author.Tests.{le-leb, lt-leb, eqb-true, eq-eqb}
-use Rattle.checks.specs.Check.{Check, Buffers, LazyList, number_of}
+use Rattle.checks.specs.Check.{number_of}
+use Rattle.checks.specs.declared.Check.{Check}
+use Rattle.checks.specs.declared.Check.TheVariants.{Buffers, LazyList}
 use Rattle.checks.specs.Limits.{buffer_words, most_sizes}
 use Rattle.checks.specs.Answer.{Answer, refused, taken, ask, next}
 use Rattle.checks.proofs.Answers.{ask_taken, next_taken, RefusedBy, ask_refused, next_refused}

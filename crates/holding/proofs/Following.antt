@@ -7,7 +7,7 @@ use Prim.Native.Nat.{ℕ, zero, suc, ◌+◌, ◌≤◌, ◌<◌}
 use native.Mathlib.Omega.{arith}
 use lib.Dec.{leb, ltb, eqb}
 use borrow.Author.Tests.{ltb-true, leb-true, eqb-true, lt-ltb, le-ltb, le-leb, eq-eqb}
-use Rattle.checks.specs.Check.{LazyList}
+use Rattle.checks.specs.declared.Check.TheVariants.{LazyList}
 use Rattle.checks.specs.Answer.{taken, next}
 use Rattle.checks.proofs.Answers.{not_both, same_taken, ask_taken, next_taken}
 use Rattle.slicing.specs.Recorded.{Recorded}

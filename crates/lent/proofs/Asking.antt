@@ -7,7 +7,8 @@ use Prim.Native.Nat.{ℕ, ◌≤◌, ◌<◌}
 use lib.Dec.{leb, eqb}
 use lib.ListN.{length, get_or}
 use borrow.Author.Tests.{leb-true, eqb-true, le-leb, lt-leb, eq-eqb, ne_eqb, not-true, not-false}
-use Rattle.checks.specs.Check.{Check, LevelCount, LevelRange, Rib, Opening, Buffers, Output}
+use Rattle.checks.specs.declared.Check.{Check}
+use Rattle.checks.specs.declared.Check.TheVariants.{LevelCount, LevelRange, Rib, Opening, Buffers, Output}
 use Rattle.checks.specs.Limits.{most_rib, most_opening}
 use Rattle.checks.specs.Answer.{taken, number}
 use Rattle.checks.proofs.Answers.{ask_taken, also_taken, also_first, also_later, RefusedBy, ask_refused, also_refused}

@@ -1,6 +1,6 @@
 -- Document 01, "The checks, as questions", from 14 to 18, and document 02's 22: what the calls on a face ask of what they are given and lent with it. A call's own definition says which of them it asks, in which order.
 use Rattle.std.specs.Prelude.{Bool, true, ◌&&◌, List, [], ◌∷◌, ℕ, leb, eqb, length}
-use Rattle.checks.specs.Check.{LevelCount, LevelRange, Rib, Opening, Buffers, Output}
+use Rattle.checks.specs.declared.Check.TheVariants.{LevelCount, LevelRange, Rib, Opening, Buffers, Output}
 use Rattle.checks.specs.Limits.{most_rib, most_opening}
 use Rattle.checks.specs.Answer.{Asked, taken, ask, also}
 use Rattle.slicing.specs.Layout.{Outline}

@@ -5,7 +5,8 @@ use mathlib.Core.List.{List}
 use Prim.Native.Nat.{ℕ, ◌≤◌}
 use native.Mathlib.Omega.{arith}
 use lib.ListN.{length}
-use Rattle.checks.specs.Check.{Check, number_of}
+use Rattle.checks.specs.Check.{number_of}
+use Rattle.checks.specs.declared.Check.{Check}
 use Rattle.checks.specs.Answer.{Answer, refused, Asked, number}
 use Rattle.checks.proofs.Answers.{same_taken}
 use Rattle.slicing.specs.Tree.{Tree, size_count, least_depth}

@@ -4,7 +4,8 @@ use mathlib.Core.Path.{◌≡◌, refl, sym, ap, subst, ◌∙◌}
 use mathlib.Core.List.{List}
 use Prim.Native.Nat.{ℕ}
 use lib.ListN.{length}
-use Rattle.checks.specs.Check.{Check, number_of}
+use Rattle.checks.specs.Check.{number_of}
+use Rattle.checks.specs.declared.Check.{Check}
 use Rattle.checks.specs.Answer.{Answer, refused, taken, Asked, number}
 use Rattle.slicing.specs.Tree.{Tree, gauge_count, size_count}
 use Rattle.slicing.specs.Layout.{Outline, outline}

@@ -1,6 +1,7 @@
 -- Document 02, Paper 7, the sheet call: its checks, what it answers, and what it leaves in the output.
 use Rattle.std.specs.Prelude.{List, ℕ, length}
-use Rattle.checks.specs.Check.{Fits, number_of}
+use Rattle.checks.specs.Check.{number_of}
+use Rattle.checks.specs.declared.Check.TheVariants.{Fits}
 use Rattle.checks.specs.Answer.{Answer, refused, taken}
 use Rattle.slicing.specs.Tree.{Tree, gauge_count, size_count}
 use Rattle.slicing.specs.Shapes.{shapes}

@@ -1,7 +1,8 @@
 -- What the program `material` prints for a file's bytes: it reads and fits as document 01's `faces` does, "a file from standard input", "to 64,000 by 64,000" with rib 0, and prints the material sheet, "or one line such as `refused 4`". And what the function that makes that text leaves.
 use Rattle.std.specs.Prelude.{List, ℕ}
 use Rattle.text.specs.Printing.{PrintedWithin}
-use Rattle.checks.specs.Check.{Fits, number_of}
+use Rattle.checks.specs.Check.{number_of}
+use Rattle.checks.specs.declared.Check.TheVariants.{Fits}
 use Rattle.checks.specs.Limits.{most_gauges}
 use Rattle.checks.specs.Answer.{Answer, refused, taken}
 use Rattle.slicing.specs.Tree.{Tree}

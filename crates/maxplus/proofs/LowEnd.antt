@@ -2,7 +2,7 @@
 -- Both calls ask the same checks of the same list, and a place is inside it from one end just where it is from the other.
 use Rattle.std.proofs.Common.{◌≡◌, ℕ, suc, ◌+◌, ◌-◌, ◌<◌, ◌≤◌, leb, List, length, get_or, refl, ap, ◌∙◌, arith}
 use lib.ListN.{length-map}
-use Rattle.checks.specs.Check.{Buffers}
+use Rattle.checks.specs.declared.Check.TheVariants.{Buffers}
 use Rattle.checks.specs.Limits.{buffer_words}
 use Rattle.checks.specs.Answer.{Answer, refused, taken, ask, next, outcome}
 use Rattle.slicing.specs.Item.{size}

@@ -5,7 +5,8 @@ use mathlib.Core.List.{reverse-cons}
 use lib.ListN.{length-map, length-reverse, get_or-append}
 use lib.Seq.{get_or_at}
 use borrow.Author.Tests.{lt-leb}
-use Rattle.checks.specs.Check.{Check, Buffers, Place}
+use Rattle.checks.specs.declared.Check.{Check}
+use Rattle.checks.specs.declared.Check.TheVariants.{Buffers, Place}
 use Rattle.checks.specs.Limits.{buffer_words, most_sizes}
 use Rattle.checks.specs.Answer.{Answer, refused, taken, ask, next, number}
 use Rattle.checks.proofs.Answers.{number_taken}

@@ -1,6 +1,6 @@
 -- Document 01's reading call: "m and true p of the k-th item, counted from 1 on the walk by forward 1". Document 02, paper 6: "Reading takes a place from either end".
 use Rattle.std.specs.Prelude.{ℕ, ◌-◌, ◌&&◌, List, reverse, length, nat_le, slice_index_or}
-use Rattle.checks.specs.Check.{Buffers, Place}
+use Rattle.checks.specs.declared.Check.TheVariants.{Buffers, Place}
 use Rattle.checks.specs.Limits.{buffer_words}
 use Rattle.checks.specs.Answer.{Answer, taken, ask, next, number, outcome}
 use Rattle.slicing.specs.Item.{Item, size}

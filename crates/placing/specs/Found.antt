@@ -1,6 +1,7 @@
 -- Document 01, "Fit": what is answered of a face whose item was picked or not, and what is written of it.
 use Rattle.std.specs.Prelude.{List, ℕ, length}
-use Rattle.checks.specs.Check.{Fits, number_of}
+use Rattle.checks.specs.Check.{number_of}
+use Rattle.checks.specs.declared.Check.TheVariants.{Fits}
 use Rattle.slicing.specs.Item.{height, width}
 use Rattle.slicing.specs.Tree.{Tree}
 use Rattle.slicing.specs.Shapes.{shapes}

@@ -1,7 +1,8 @@
 -- Document 01: "A program `faces` reads a file from standard input, fits it to 64,000 by 64,000 and prints as below, or one line such as `refused 4`." What it prints for a file's bytes, and what the function that makes that text leaves.
 use Rattle.std.specs.Prelude.{List, ℕ}
 use Rattle.text.specs.Printing.{PrintedWithin}
-use Rattle.checks.specs.Check.{Fits, number_of}
+use Rattle.checks.specs.Check.{number_of}
+use Rattle.checks.specs.declared.Check.TheVariants.{Fits}
 use Rattle.checks.specs.Answer.{Answer, refused, taken}
 use Rattle.slicing.specs.Tree.{Tree}
 use Rattle.slicing.specs.Shapes.{shapes}

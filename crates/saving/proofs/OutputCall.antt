@@ -3,7 +3,8 @@
 use mathlib.Core.Path.{◌≡◌, refl, sym, ap, ◌∙◌}
 use Prim.Native.Nat.{ℕ, ◌*◌, ◌-◌, ◌≤◌}
 use native.Mathlib.Omega.{arith}
-use Rattle.checks.specs.Check.{Check, number_of}
+use Rattle.checks.specs.Check.{number_of}
+use Rattle.checks.specs.declared.Check.{Check}
 use Rattle.checks.specs.Limits.{most_gauges, most_sizes}
 use Rattle.checks.specs.Answer.{Answer, refused, taken, Asked, also, number, first_no}
 use Rattle.checks.proofs.Answers.{number_positive, number_taken, number_refused, first_wins}

@@ -4,7 +4,8 @@ use mathlib.Core.Path.{◌≡◌, refl, sym, ap, subst, ◌∙◌}
 use mathlib.Core.List.{List}
 use Prim.Native.Nat.{ℕ, ◌+◌, ◌*◌, ◌-◌, ◌≤◌}
 use lib.ListN.{length}
-use Rattle.checks.specs.Check.{Check, number_of}
+use Rattle.checks.specs.Check.{number_of}
+use Rattle.checks.specs.declared.Check.{Check}
 use Rattle.checks.specs.Limits.{most_rib, buffer_words}
 use Rattle.checks.specs.Answer.{Answer, refused, taken, Asked, also, number}
 use Rattle.checks.proofs.Answers.{also_taken}

@@ -8,7 +8,7 @@ use native.Mathlib.Nat.{mul-zero, add-zero, sub-zero}
 use native.Mathlib.Omega.{arith}
 use lib.ListN.{drop}
 use borrow.Author.Tests.{not-true, not-false}
-use Rattle.checks.specs.Check.{Limits}
+use Rattle.checks.specs.declared.Check.TheVariants.{Limits}
 use Rattle.checks.specs.Answer.{ask, number}
 use Rattle.slicing.specs.Item.{Item}
 use Rattle.sizes.specs.Rules.{Rules, asks_order}

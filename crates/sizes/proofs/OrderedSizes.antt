@@ -8,7 +8,7 @@ use native.Mathlib.Nat.{mul-zero, add-zero, sub-zero}
 use native.Mathlib.Omega.{arith}
 use lib.ListN.{drop}
 use borrow.Author.Tests.{not-true, not-false}
-use Rattle.checks.specs.Check.{Limits, Order}
+use Rattle.checks.specs.declared.Check.TheVariants.{Limits, Order}
 use Rattle.checks.specs.Answer.{Answer, ask, number}
 use Rattle.slicing.specs.Item.{Item, height, width}
 use Rattle.sizes.specs.Rules.{Rules, asks_order}

@@ -10,7 +10,8 @@ use lib.ListN.{get_or, drop}
 use lib.Dec.{leb, ltb}
 use borrow.Author.Tests.{le-leb, lt-leb, lt-ltb, le-ltb, leb-true}
 use lib.Seq.{drop-drop, get_or-drop}
-use Rattle.checks.specs.Check.{Check, Limits, Order}
+use Rattle.checks.specs.declared.Check.{Check}
+use Rattle.checks.specs.declared.Check.TheVariants.{Limits, Order}
 use Rattle.checks.specs.Answer.{Answer, refused, taken, ask, next, number}
 use Rattle.slicing.specs.Item.{Item, size}
 use Rattle.sizes.specs.Rules.{Rules}

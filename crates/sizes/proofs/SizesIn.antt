@@ -6,7 +6,7 @@ use Prim.Native.Nat.{ℕ, zero, suc, ◌+◌, ◌*◌, ◌<◌}
 use native.Mathlib.Omega.{arith}
 use lib.ListN.{length, get_or, drop}
 use lib.Seq.{drop-drop, get_or-drop}
-use Rattle.checks.specs.Check.{Limits, Order}
+use Rattle.checks.specs.declared.Check.TheVariants.{Limits, Order}
 use Rattle.checks.specs.Answer.{taken}
 use Rattle.checks.proofs.Answers.{same_taken, ask_taken, next_taken}
 use Rattle.slicing.specs.Item.{Item, size}

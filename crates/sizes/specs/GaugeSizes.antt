@@ -1,6 +1,6 @@
 -- Document 01, "The face file" and "The checks, as questions": the sizes of a gauge, taken in turn, or the first of checks 8 and 9 that they fail. Document 02 has files whose sizes are not asked for their order (Paper 1), and sizes in words (Paper 3).
 use Rattle.std.specs.Prelude.{Bool, true, cond, ◌&&◌, List, [], ◌∷◌, ℕ, zero, suc, ◌+◌, ◌*◌, get_or, drop, leb, ltb}
-use Rattle.checks.specs.Check.{Limits, Order}
+use Rattle.checks.specs.declared.Check.TheVariants.{Limits, Order}
 use Rattle.checks.specs.Answer.{Answer, taken, ask, next}
 use Rattle.slicing.specs.Item.{Item, size, height, width}
 use Rattle.sizes.specs.Rules.{Rules, asks_order}

@@ -1,6 +1,6 @@
 -- What the parts of the pass over a list answer.
 use Rattle.std.specs.Prelude.{◌≡◌, List, [], ℕ, ◌≤◌, ◌<◌, leb, length, get_or}
-use Rattle.checks.specs.Check.{Buffers}
+use Rattle.checks.specs.declared.Check.TheVariants.{Buffers}
 use Rattle.checks.specs.Limits.{most_sizes, buffer_words}
 use Rattle.checks.specs.Answer.{Answer, ask, number, outcome}
 use Rattle.slicing.specs.Item.{Item, size}

@@ -1,6 +1,6 @@
 -- The number of checks 8 and 9 on one size, and the sizes that stand in bytes, four bytes a size: a height and a width. No public contract cites it.
 use Rattle.std.specs.Prelude.{◌≡◌, Bool, List, [], ◌∷◌, ℕ, zero, suc, ◌*◌, ◌<◌, length, get_or, drop}
-use Rattle.checks.specs.Check.{Limits, Order}
+use Rattle.checks.specs.declared.Check.TheVariants.{Limits, Order}
 use Rattle.checks.specs.Answer.{taken, ask, number}
 use Rattle.slicing.specs.Item.{Item, size}
 use Rattle.sizes.specs.GaugeSizes.{size_at}
