@@ -54,6 +54,10 @@ passed_kept a b f r sums level_kept adjust_kept t =
 pub record HeldFrom (l : ℕ) (f : ℕ → ℕ) (sums : List ℕ) : Type 0 where
   pub at : (i : ℕ) → l ≤ i → 1 ≤ i → i ≤ 8 → get_or sums i 0 ≡ sum_from f i 8 % 2 ^ 32
 
+-- A loop that counts down reads the word above the one that it sets, which is the last that it set.
+pub word_above : (sums : List ℕ) (l : ℕ) → 1 < l → get_or sums (l - 1 + 1) 0 ≡ get_or sums l 0
+word_above sums l less = let same : l - 1 + 1 ≡ l = omega arith in ap (λ (n : ℕ). get_or sums n 0) same
+
 -- One word more: the sum from a link up is that link and the sum above it.
 pub held_more : (l : ℕ) (f : ℕ → ℕ) (sums : List ℕ) → HeldFrom l f sums → 1 < l → l ≤ 8 → length sums ≡ 9 → (x v w : ℕ) → x ≡ get_or sums l 0 → v ≡ f (l - 1) → w ≡ (x + v) % 2 ^ 32 → HeldFrom (l - 1) f (set sums (l - 1) w)
 held_more l f sums s less high nine x v w x_is v_is w_is =

@@ -3,15 +3,15 @@
 ghost use Rattle.arena.specs.Arena.{adjust};
 ghost use Rattle.arena.specs.inside.Sums.{Summable, Enterable, Suffixes, TrueP, Renewed};
 
-use crate::words::{ADJUST, LEVEL, P, get, wide};
+use crate::words::{ADJUST, LEVEL, P, get};
 
 // The true p of a record that the sums lead to: what it stores and the sum from its level up.
 pub fn true_p(arena: &[u32], r: usize, sums: &[u32]) -> u32
     requires { Summable arena.now r sums.now }
     ensures { TrueP arena.now r sums.now result }
 {
-    let level = wide(get(arena, r, LEVEL));
-    std::num::wrapping_add_u32(get(arena, r, P), sums[level])
+    let level = get(arena, r, LEVEL) as usize;
+    get(arena, r, P).wrapping_add(sums[level])
 }
 
 // Makes the sums those of a head, with which a walk enters its list. A head has every link, so that none of its words but
@@ -20,11 +20,8 @@ pub fn enter(arena: &[u32], head: usize, sums: &mut [u32])
     requires { Enterable arena.now head sums.old }
     ensures { Suffixes (adjust arena.now head) sums.new }
 {
-    let mut l = 8;
-    while 1 < l {
-        let k = l - 1;
-        sums[k] = std::num::wrapping_add_u32(sums[l], get(arena, head, ADJUST + k));
-        l = k;
+    for k in (1..8).rev() {
+        sums[k] = sums[k + 1].wrapping_add(get(arena, head, ADJUST + k));
     }
 }
 
@@ -34,10 +31,8 @@ pub fn pass(arena: &[u32], r: usize, sums: &mut [u32])
     requires { Summable arena.now r sums.old }
     ensures { Renewed arena.now r sums.old sums.new }
 {
-    let mut l = wide(get(arena, r, LEVEL));
-    while 1 < l {
-        let k = l - 1;
-        sums[k] = std::num::wrapping_add_u32(sums[l], get(arena, r, ADJUST + k));
-        l = k;
+    let level = get(arena, r, LEVEL) as usize;
+    for k in (1..level).rev() {
+        sums[k] = sums[k + 1].wrapping_add(get(arena, r, ADJUST + k));
     }
 }

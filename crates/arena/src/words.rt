@@ -42,7 +42,7 @@ pub fn raise(arena: &mut [u32], r: usize, j: usize, v: u32)
     ensures { arena.new ≡ put arena.old r j (wrap (word arena.old r j) v) }
 {
     let at = STRIDE * r + j;
-    arena[at] = std::num::wrapping_add_u32(arena[at], v);
+    arena[at] = arena[at].wrapping_add(v);
 }
 
 // A word as an index.

@@ -1,14 +1,15 @@
 -- `arena::sums::pass` meets its contract.
--- The loop keeps `Renewing`, that the sums from l up are those after the record; the measure is l.
-use Rattle.std.proofs.Common.{◌∙◌, rules}
-use Rattle.arena.proofs.Summing.{renewing_start, renewing_more, passing_done}
+-- The loop keeps `Renewing`, that the sums from k up are those after the record.
+use Rattle.std.proofs.Common.{refl, rules}
+use Rattle.arena.proofs.Summing.{word_above, renewing_start, renewing_more, passing_done}
 use Rattle.arena.proofs.sums.pass.Goals as goal
 
-pub loop-l-init : goal.loop-l-init
-loop-l-init c = renewing_start _ _ _ _ (search rules) (c.wide-l.ensures ∙ c.get.ensures)
+pub loop-k-init : goal.loop-k-init
+loop-k-init c = renewing_start _ _ _ _ c.requires.nine c.get-level.ensures
 
-pub loop-l-preserved : goal.loop-l-preserved
-loop-l-preserved c = search (rules, renewing_more)
+pub loop-k-preserved : goal.loop-k-preserved
+loop-k-preserved c =
+    renewing_more _ _ _ _ _ c.requires.high c.loop-k.invariant c.loop-k-test.true _ _ _ (word_above _ _ c.loop-k-test.true) c.get.ensures refl
 
 pub returns : goal.returns
 returns c = search (rules, passing_done)
