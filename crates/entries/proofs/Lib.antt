@@ -2,3 +2,4 @@ pub mod Took
 pub mod Stacks
 pub mod Entries
 pub mod Across
+pub mod KindLaws

@@ -6,7 +6,7 @@ mod gauge;
 mod gauge_sizes;
 mod kinds;
 
-pub use kinds::runs_across;
+pub use kinds::{Kind, runs_across};
 
 // The kind byte of an entry: a gauge, or a join of two parts side by side or stacked.
 pub const GAUGE: u8 = 1;
