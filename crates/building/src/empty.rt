@@ -10,10 +10,8 @@ pub fn clear_head(arena: &mut [u32], head: usize)
     requires { Has arena.old head }
     ensures { Cleared arena.old head arena.new }
 {
-    let mut j = 1;
-    while j < STRIDE {
+    for j in 1..STRIDE {
         store(arena, head, j, 0);
-        j += 1;
     }
     store(arena, head, LEVEL, 8);
 }

@@ -3,7 +3,7 @@ ghost use Rattle.std.specs.Prelude.{◌≡◌, ◌≤◌, ◌<◌};
 ghost use Rattle.arena.specs.Arena.{level};
 ghost use Rattle.building.specs.inside.Building.{hook1, Hooked, Hookable};
 
-use arena::words::{ADJUST, FORWARD, LEVEL, get, store, wide};
+use arena::words::{ADJUST, FORWARD, LEVEL, get, store};
 
 // Puts link k of record r between the head and what follows the head by it. The adjust is that of a head whose adjusts
 // are 0, so that the true p of what follows stays.
@@ -22,10 +22,8 @@ pub fn prepend(arena: &mut [u32], head: usize, r: usize)
     requires { Hookable arena.old head r × (1 ≤ level arena.old r) × (level arena.old r ≤ 8) }
     ensures { Hooked 1 (level arena.old r) arena.old head r arena.new }
 {
-    let mut l = wide(get(arena, r, LEVEL));
-    while 1 < l {
-        let k = l - 1;
+    let level = get(arena, r, LEVEL) as usize;
+    for k in (1..level).rev() {
         hook(arena, head, r, k);
-        l = k;
     }
 }

@@ -1,5 +1,5 @@
 -- `building::empty::clear_head` meets its contract.
--- The loop keeps `Clearing`, that the words of the head from 1 up to j are 0; the measure is what is left of the record.
+-- The loop keeps `Clearing`, that the words of the head from 1 up to j are 0.
 use borrow.Author.Rules.{rules}
 use Rattle.building.proofs.ClearLaws.{clearing_start, clearing_more, clearing_done}
 use Rattle.building.proofs.empty.clear_head.Goals as goal

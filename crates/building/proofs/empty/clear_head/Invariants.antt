@@ -1,12 +1,7 @@
 -- `building::empty::clear_head` meets its contract.
--- The loop keeps `Clearing`, that the words of the head from 1 up to j are 0; the measure is what is left of the record.
-use Prim.Native.Nat.{◌-◌}
-use Rattle.arena.specs.Arena.{stride}
+-- The loop keeps `Clearing`, that the words of the head from 1 up to j are 0.
 use Rattle.building.proofs.ClearLaws.{Clearing}
 use Rattle.building.proofs.empty.clear_head.Given as goal
 
 abbrev pub invariant-loop-j : goal.invariant-loop-j
 invariant-loop-j l = Clearing l.initial.arena l.head l.arena l.j
-
-abbrev pub decreases-loop-j : goal.decreases-loop-j
-decreases-loop-j l = stride - l.j
