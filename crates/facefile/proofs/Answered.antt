@@ -1,6 +1,6 @@
 -- What a caller of the reader knows: with the number 0 the file means a tree, whose gauges and sizes the answer counts; with any other it is refused by the check of that number.
 -- The answer is the definition's, and no check has the number 0.
-use mathlib.Core.Path.{◌≡◌, refl, sym, ap}
+use mathlib.Core.Path.{◌≡◌, refl, sym, ap, ap₂}
 use mathlib.Core.List.{List, []}
 use Prim.Native.Nat.{ℕ, zero, suc, ◌<◌}
 use native.Mathlib.Omega.{arith}
@@ -10,9 +10,10 @@ use Rattle.checks.specs.Answer.{Answer, refused, taken}
 use Rattle.checks.proofs.Answers.{number_positive}
 use Rattle.slicing.specs.Tree.{Tree, gauge_count, size_count}
 use Rattle.facefile.specs.declared.Face.{Face}
+use Rattle.facefile.specs.declared.Counts.{Counts as Counted}
 use Rattle.facefile.specs.Format.{face_of}
 use Rattle.facefile.specs.Gauge.{gauge_bytes}
-use Rattle.facefile.specs.Summary.{summary}
+use Rattle.facefile.specs.Summary.{summary, counted}
 
 -- The tree of a taken file, and its counts.
 pub record Counts (f : Face) (a : Answer Tree) : Type 0 where
@@ -39,6 +40,17 @@ pub answer_refused : (f : Face) (a : Answer Tree) → f ≡ summary a → (f.num
 unfolding summary
 answer_refused f (refused c) e h = (c, refl, ap (λ (x : Face). x.number) e)
 answer_refused f (taken t) e h = absurd (h (ap (λ (x : Face). x.number) e))
+
+-- The same answer as a check or what is counted.
+pub counted_refused : (f : Face) (a : Answer Tree) → f ≡ summary a → (f.number ≡ 0 → ⊥) → (k : Check) → ((c : Check) → f.number ≡ number_of c → k ≡ c) → ◌≡◌ {A = Answer Counted} (refused k) (counted a)
+unfolding counted
+counted_refused f a e h k is = let bad = answer_refused f a e h in rw (bad.1) (ap (λ (c : Check). refused c) (is bad.0 bad.2))
+
+pub counted_taken : (f : Face) (a : Answer Tree) → f ≡ summary a → f.number ≡ 0 → ◌≡◌ {A = Answer Counted} (taken (record { gauges = f.gauges; sizes = f.sizes })) (counted a)
+unfolding counted summary
+counted_taken f (refused c) e z = absurd (let n = ap (λ (x : Face). x.number) e in let p = number_positive c in omega arith)
+counted_taken f (taken t) e z =
+    ap₂ (λ (g s : ℕ). taken (record { gauges = g; sizes = s })) (ap (λ (x : Face). x.gauges) e) (ap (λ (x : Face). x.sizes) e)
 
 -- For the gauge-bytes call.
 pub face_tree : (f : Face) (file : List ℕ) → f ≡ summary (face_of file) → f.number ≡ 0 → (t : Tree) × (face_of file ≡ taken t)

@@ -4,6 +4,12 @@ use Rattle.checks.specs.Check.{number_of}
 use Rattle.checks.specs.Answer.{Answer, refused, taken}
 use Rattle.slicing.specs.Tree.{Tree, gauge_count, size_count}
 use Rattle.facefile.specs.declared.Face.{Face}
+use Rattle.facefile.specs.declared.Counts.{Counts}
+
+-- What is counted in a taken file: its gauges and its sizes.
+unfoldable pub counted : Answer Tree → Answer Counts
+counted (refused c) = refused c
+counted (taken t) = taken (record { gauges = gauge_count t; sizes = size_count t })
 
 abbrev pub refused_face : ℕ → Face
 refused_face n = record { number = n; gauges = 0; sizes = 0 }

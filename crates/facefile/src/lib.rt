@@ -18,6 +18,13 @@ pub struct Face {
     pub sizes: usize,
 }
 
+// What is counted in a taken file: its gauges, and the sizes of all of them.
+#[derive(Clone, Copy, PartialEq, Eq)]
+pub struct Counts {
+    pub gauges: usize,
+    pub sizes: usize,
+}
+
 // A stretch of the file's bytes, from one place up to another.
 #[derive(Clone, Copy)]
 struct Stretch {

@@ -1,15 +1,17 @@
 // The whole file: checks 1 to 13.
 ghost use Rattle.std.specs.Prelude.{◌≡◌, List, ℕ, ◌≤◌, length};
 ghost use Rattle.checks.specs.Answer.{number};
+ghost use Rattle.checks.specs.Check.{number_of};
 ghost use Rattle.entries.specs.Entry.{entries};
 ghost use Rattle.sizes.specs.GaugeSizes.{version_rules};
 ghost use Rattle.facefile.specs.Format.{header, start, face_of};
-ghost use Rattle.facefile.specs.Summary.{refused_face, summary};
+ghost use Rattle.facefile.specs.Summary.{refused_face, summary, counted};
 ghost use Rattle.entries.specs.inside.Tracking.{Fair, Follows};
 ghost use Rattle.facefile.specs.inside.Ending.{Ends};
 
-use crate::Face;
 use crate::walk::FIRST_ENTRY;
+use crate::{Counts, Face};
+use checks::Check;
 use entries::entry::read_entry;
 use entries::{Cursor, Step};
 use sizes::field::field;
@@ -100,4 +102,49 @@ pub fn read(file: &[u8]) -> Face
         Step::Stop(number) => refused(number),
         Step::Next(c) => read_end(file.len(), c),
     }
+}
+
+// The check of a number.
+fn check_of(number: u32) -> Check
+    ensures { (c : Check) → number ≡ number_of c → result ≡ c }
+{
+    match number {
+        1 => Check::Length,
+        2 => Check::Mark,
+        3 => Check::Version,
+        4 => Check::Entries,
+        5 => Check::Present,
+        6 => Check::Kind,
+        7 => Check::SizeCount,
+        8 => Check::Limits,
+        9 => Check::Order,
+        10 => Check::Gauges,
+        11 => Check::Join,
+        12 => Check::OnePart,
+        13 => Check::AtEnd,
+        14 => Check::LevelCount,
+        15 => Check::LevelRange,
+        16 => Check::Opening,
+        17 => Check::Buffers,
+        18 => Check::Output,
+        19 => Check::Fits,
+        20 => Check::LazyList,
+        21 => Check::Place,
+        22 => Check::Rib,
+        _ => Check::Heights,
+    }
+}
+
+// Checks 1 to 13 on any bytes: the first that fails, or what is counted.
+pub fn counts(file: &[u8]) -> Result<Counts, Check>
+    ensures { result ≡ counted (face_of file.now) }
+{
+    let face = read(file);
+    if face.number != checks::TAKEN {
+        return Err(check_of(face.number));
+    }
+    Ok(Counts {
+        gauges: face.gauges,
+        sizes: face.sizes,
+    })
 }
