@@ -1,10 +1,14 @@
 -- What the loops over the row of due links keep, one law for each way through them.
--- A record's forwards are put down from its level, and each word that they replace named the record; a comparison has met only 0 so far.
-use Rattle.std.proofs.Common.{◌≡◌, ℕ, ◌+◌, ◌-◌, ◌%◌, ◌^◌, ◌<◌, ◌≤◌, true, false, List, length, get_or, set, sym, refl, ◌∙◌, subst, arith, length-set, get_or-set_other, get_or-set_same}
+-- A record's forwards are put down from its level, and each word that they replace named the record; a row of which each word is 0 names none.
+use Rattle.std.proofs.Common.{◌≡◌, ℕ, ◌+◌, ◌-◌, ◌%◌, ◌^◌, ◌<◌, ◌≤◌, Bool, true, false, List, length, get_or, set, take, drop, sym, refl, ap, ◌∙◌, subst, arith, length-set, length-drop, get_or-take, get_or-set_other, get_or-set_same}
+use Rattle.std.proofs.lemmas.List.{length-take-le}
+use Rattle.std.proofs.lemmas.Grind.{get_or_after_one}
+use Rattle.std.specs.Bool.{MatchBool}
+use Rattle.std.specs.List.{AllWithin, HoldsAt}
 use Rattle.arena.specs.Arena.{word, level, forward, adjust}
 use Rattle.arena.specs.inside.Sums.{Summable, Renewed}
-use Rattle.arena.proofs.Cases.{eq_or_ne, lt_or_ge}
-use Rattle.arena.proofs.Summing.{Renewing, renewing_start, renewing_more, passing_done}
+use Rattle.arena.proofs.Cases.{eq_or_ne}
+use Rattle.arena.proofs.Summing.{word_above, Renewing, renewing_start, renewing_more, passing_done}
 use Rattle.forwards.specs.inside.Due.{Decides, Are, Passed}
 
 -- The forwards of record r from link l up are in their places.
@@ -75,11 +79,11 @@ module _ (a : List ℕ) (r : ℕ) (first sums : List ℕ) where
     untouched : 1 < l → get_or e (l - 1) 0 ≡ get_or first (l - 1) 0
     untouched more = z.relinks.below (l - 1) (omega arith)
 
-    pub passing_more : Summable a r sums → 1 < l → (n w v y : ℕ) → n ≡ get_or e (l - 1) 0 → n ≡ r → w ≡ word a r (3 + (l - 1)) → v ≡ word a r (11 + (l - 1)) → y ≡ (get_or s l 0 + v) % 2 ^ 32 → Passing a r first sums (set e (l - 1) w) (set s (l - 1) y) (l - 1)
+    pub passing_more : Summable a r sums → 1 < l → (n w v y : ℕ) → n ≡ get_or e (l - 1) 0 → n ≡ r → w ≡ word a r (3 + (l - 1)) → v ≡ word a r (11 + (l - 1)) → y ≡ (get_or s (l - 1 + 1) 0 + v) % 2 ^ 32 → Passing a r first sums (set e (l - 1) w) (set s (l - 1) y) (l - 1)
     passing_more can more n w v y n_is due w_is v_is y_is =
         record {
           relinks = relinking_more a r first e l w z.relinks more w_is;
-          renews = renewing_more (adjust a r) (level a r) sums s l can.high z.renews more (get_or s l 0) v y refl v_is y_is;
+          renews = renewing_more (adjust a r) (level a r) sums s l can.high z.renews more _ v y (word_above s l more) v_is y_is;
           was =
               λ k from end. eq_or_ne k (l - 1)
               (λ same. subst (λ (i : ℕ). get_or first i 0 ≡ r) (sym same) (sym (untouched more) ∙ sym n_is ∙ due))
@@ -103,33 +107,25 @@ module _ (a : List ℕ) (r : ℕ) (first sums : List ℕ) where
       pub passing_sums : Summable a r sums → Renewed a r sums s
       passing_sums can = passing_done a r sums s l z.renews done
 
--- No word from link 1 up to link k names a record.
-pub record Free (row : List ℕ) (k : ℕ) : Type 0 where
-  pub from : 1 ≤ k
-  pub within : k ≤ 8
-  pub inside : 8 ≤ length row
-  pub none : Are row k 0
+-- The words 1 to 7 of a row, and what a test of each of them answers.
+module _ (row : List ℕ) (long : 8 ≤ length row) where
+  abbrev pub words : List ℕ
+  words = take 7 (drop 1 row)
 
-pub free_start : (row : List ℕ) → 8 ≤ length row → Free row 1
-unfolding Are
-free_start row h = record { from = omega arith; within = omega arith; inside = h; none = λ k low high. absurd (omega arith) }
+  word_at : (i : ℕ) → i < 7 → get_or words i 0 ≡ get_or row (1 + i) 0
+  word_at i less = get_or-take 7 (drop 1 row) i 0 less ∙ get_or_after_one row i 0
 
-pub free_more : (row : List ℕ) (k : ℕ) → Free row k → k < 8 → get_or row k 0 ≡ 0 → Free row (k + 1)
-unfolding Are
-free_more row k z h e =
-    record {
-      from = omega arith;
-      within = omega arith;
-      inside = z.inside;
-      none =
-          λ i low high. lt_or_ge i k (λ b. z.none i low b)
-          (λ b. let same : k ≡ i = omega arith in subst (λ (n : ℕ). get_or row n 0 ≡ 0) same e);
-    }
+  seven : length words ≡ 7
+  seven = let rest = length-drop 1 row in length-take-le 7 (drop 1 row) (omega arith)
 
-pub free_not : (row : List ℕ) (k : ℕ) → Free row k → k < 8 → (get_or row k 0 ≡ 0 → ⊥) → Decides false (Are row 8 0)
-unfolding Are
-free_not row k z h e f = e (f k z.from h)
-
-pub free_all : (row : List ℕ) (k : ℕ) → Free row k → 8 ≤ k → Decides true (Are row 8 0)
-unfolding Are
-free_all row k z h i low high = z.none i low (omega arith)
+  pub all_free : (r : Bool) → MatchBool r (AllWithin (λ x. x ≡ 0) words 0 (length words)) ((k : ℕ) × (k < length words) × HoldsAt (λ x. x ≡ 0 → ⊥) words k) → Decides r (Are row 8 0)
+  unfolding Are
+  all_free true each =
+      let many = seven in
+      λ k low high.
+      let same : 1 + (k - 1) ≡ k = omega arith in
+      ap (λ (i : ℕ). get_or row i 0) (sym same) ∙ sym (word_at (k - 1) (omega arith)) ∙ each (k - 1) 0 (omega arith) (omega arith)
+  all_free false some =
+      let many = seven in
+      let less = some.1 in
+      λ are. some.2 0 (word_at some.0 (omega arith) ∙ are (1 + some.0) (omega arith) (omega arith))

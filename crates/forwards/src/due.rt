@@ -6,18 +6,15 @@ ghost use Rattle.arena.specs.inside.Chain.{Has};
 ghost use Rattle.arena.specs.inside.Sums.{Summable, Renewed};
 ghost use Rattle.forwards.specs.inside.Due.{Decides, Are, Passed};
 
-use arena::words::{ADJUST, FORWARD, LEVEL, get, wide};
+use arena::words::{ADJUST, FORWARD, LEVEL, get};
 
 // Makes the forwards of the head due, which has all links.
 pub fn due_from_head(arena: &[u32], due: &mut [u32])
     requires { Has arena.now 0 × (level arena.now 0 ≡ 8) × (8 ≤ length due.old) }
     ensures { Passed arena.now 0 due.old due.new }
 {
-    let mut l = 8;
-    while 1 < l {
-        let k = l - 1;
+    for k in (1..8).rev() {
         due[k] = get(arena, 0, FORWARD + k);
-        l = k;
     }
 }
 
@@ -29,15 +26,13 @@ pub fn pass_links(arena: &[u32], r: usize, due: &mut [u32], sums: &mut [u32]) ->
     ensures passed { result ≡ true → Passed arena.now r due.old due.new }
     ensures renewed { result ≡ true → Renewed arena.now r sums.old sums.new }
 {
-    let mut l = wide(get(arena, r, LEVEL));
-    while 1 < l {
-        let k = l - 1;
-        if wide(due[k]) != r {
+    let level = get(arena, r, LEVEL) as usize;
+    for k in (1..level).rev() {
+        if due[k] as usize != r {
             return false;
         }
         due[k] = get(arena, r, FORWARD + k);
-        sums[k] = std::num::wrapping_add_u32(sums[l], get(arena, r, ADJUST + k));
-        l = k;
+        sums[k] = sums[k + 1].wrapping_add(get(arena, r, ADJUST + k));
     }
     true
 }
@@ -47,12 +42,5 @@ pub fn none_due(due: &[u32]) -> bool
     requires { 8 ≤ length due.now }
     ensures { Decides result (Are due.now 8 0) }
 {
-    let mut k = 1;
-    while k < 8 {
-        if due[k] != 0 {
-            return false;
-        }
-        k += 1;
-    }
-    true
+    due[1..8].iter().all(|&r| r == 0)
 }
