@@ -1,6 +1,6 @@
 -- The law of a call on a face, whatever the answer of the file and whatever it asks: it is refused by the file, refused by what it asks beside it, or taken.
 -- The reader's answer sums up that of the file, and the number of what is asked is the definition's.
-use mathlib.Core.Path.{◌≡◌, sym, ap, subst, ◌∙◌}
+use mathlib.Core.Path.{◌≡◌, refl, sym, ap, subst, ◌∙◌}
 use mathlib.Core.List.{List}
 use Prim.Native.Nat.{ℕ, ◌≤◌}
 use native.Mathlib.Omega.{arith}
@@ -8,11 +8,12 @@ use Rattle.checks.specs.Check.{number_of}
 use Rattle.checks.specs.declared.Check.{Check}
 use Rattle.checks.specs.Limits.{most_gauges, most_sizes}
 use Rattle.checks.specs.Answer.{Answer, refused, taken, Asked, also, number}
-use Rattle.checks.proofs.Answers.{same_taken, next_taken, also_taken, number_taken, number_refused, RefusedBy, next_refused, also_refused}
+use Rattle.checks.proofs.Answers.{not_both, same_taken, next_taken, also_taken, number_taken, number_refused, RefusedBy, next_refused, also_refused}
 use Rattle.slicing.specs.Tree.{Tree, gauge_count, size_count}
+use Rattle.facefile.specs.declared.Counts.{Counts as Counted}
 use Rattle.facefile.specs.declared.Face.{Face}
 use Rattle.facefile.specs.Format.{face_of}
-use Rattle.facefile.specs.Summary.{summary}
+use Rattle.facefile.specs.Summary.{summary, counted}
 use Rattle.facefile.proofs.Answered.{Counts, answer_taken, answer_refused}
 use Rattle.facefile.proofs.Taken.{face_taken}
 use Rattle.lent.specs.Call.{call_on}
@@ -69,20 +70,73 @@ module _ (face : Answer Tree) (asks : Tree → Asked) where
         pub taken_by_all : n ≡ 0 → call_on face asks ≡ taken counts.tree
         taken_by_all passed = answer_is ∙ ap (λ (q : Asked). also q (taken counts.tree)) (asked_taken passed)
 
--- What the reader counts in a taken file is few.
-pub record Few (f : Face) : Type 0 where
-  pub gauges : f.gauges ≤ most_gauges
-  pub sizes : f.sizes ≤ most_sizes
-  pub one_each : f.gauges ≤ f.sizes
+-- What is counted in a face.
+abbrev pub counts_of : Tree → Counted
+counts_of t = record { gauges = gauge_count t; sizes = size_count t }
 
-pub read_few : (file : List ℕ) (f : Face) → f ≡ summary (face_of file) → f.number ≡ 0 → Few f
+-- The face of which n is what was counted.
+pub record CountedFace (n : Counted) (a : Answer Tree) : Type 0 where
+  pub tree : Tree
+  pub face : a ≡ taken tree
+  pub counts : n ≡ counts_of tree
+
+pub face_counted : (n : Counted) (a : Answer Tree) → taken n ≡ counted a → CountedFace n a
+unfolding counted
+face_counted n (refused c) e = absurd (not_both c n (sym e))
+face_counted n (taken t) e = record { tree = t; face = refl; counts = same_taken n (counts_of t) e }
+
+pub face_refused : (c : Check) (a : Answer Tree) → ◌≡◌ {A = Answer Counted} (refused c) (counted a) → a ≡ refused c
+unfolding counted
+face_refused c (refused d) e = let same : c ≡ d = cc in ap refused (sym same)
+face_refused c (taken t) e = absurd (not_both c (counts_of t) e)
+
+-- A call that asks what hangs on the counts alone, and answers with the first check that was answered "no".
+module _ (face : Answer Tree) (asked : Counted → Asked) where
+  abbrev counted_call : Answer Tree
+  counted_call = call_on face (λ t. asked (counts_of t))
+
+  pub call_no_file : (c : Check) → ◌≡◌ {A = Answer Counted} (refused c) (counted face) → counted_call ≡ refused c
+  call_no_file c e = ap (λ (a : Answer Tree). call_on a (λ t. asked (counts_of t))) (face_refused c face e)
+
+  module _ (n : Counted) (read : taken n ≡ counted face) where
+    pub called : CountedFace n face
+    called = face_counted n face read
+
+    call_asks : counted_call ≡ also (asked n) (taken called.tree)
+    call_asks =
+        ap (λ (a : Answer Tree). call_on a (λ t. asked (counts_of t))) called.face
+        ∙ ap (λ (m : Counted). also (asked m) (taken called.tree)) (sym called.counts)
+
+    pub call_no_asked : (c : Check) → refused c ≡ asked n → counted_call ≡ refused c
+    call_no_asked c e = call_asks ∙ ap (λ (q : Asked). also q (taken called.tree)) (sym e)
+
+    pub call_goes : taken tt ≡ asked n → counted_call ≡ taken called.tree
+    call_goes e = call_asks ∙ ap (λ (q : Asked). also q (taken called.tree)) (sym e)
+
+-- What is counted in a taken file is few.
+pub record Few (g n : ℕ) : Type 0 where
+  pub gauges : g ≤ most_gauges
+  pub sizes : n ≤ most_sizes
+  pub one_each : g ≤ n
+
+pub file_few : (file : List ℕ) (t : Tree) → face_of file ≡ taken t → Few (gauge_count t) (size_count t)
+file_few file t face =
+    let known = face_taken file t face in
+    record { gauges = known.few; sizes = known.most; one_each = known.least }
+
+pub counts_few : (file : List ℕ) (n : Counted) → taken n ≡ counted (face_of file) → Few n.gauges n.sizes
+counts_few file n read =
+    let known = face_counted n (face_of file) read in
+    subst (λ (m : Counted). Few m.gauges m.sizes) (sym known.counts) (file_few file known.tree known.face)
+
+pub read_few : (file : List ℕ) (f : Face) → f ≡ summary (face_of file) → f.number ≡ 0 → Few f.gauges f.sizes
 read_few file f read zero =
     let face = answer_taken f (face_of file) read zero in
-    let known = face_taken file face.tree face.face in
+    let few = file_few file face.tree face.face in
     let g = face.gauges in
     let n = face.sizes in
     record {
-      gauges = omega (arith, known.few);
-      sizes = omega (arith, known.most);
-      one_each = omega (arith, known.least);
+      gauges = omega (arith, few.gauges);
+      sizes = omega (arith, few.sizes);
+      one_each = omega (arith, few.one_each);
     }
