@@ -6,7 +6,7 @@ pub mod reader;
 mod size_bytes;
 pub mod walk;
 
-pub use reader::{counts, read};
+pub use reader::read;
 pub use size_bytes::gauge_bytes;
 
 // What the reader answers: the number of the first check that fails, with the counts 0; or 0, with the counts of
