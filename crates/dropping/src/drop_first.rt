@@ -3,7 +3,7 @@ ghost use Rattle.std.specs.Prelude.{◌≡◌, List, ◌∷◌, ℕ, ◌<◌};
 ghost use Rattle.arena.specs.inside.Chain.{Has, Linked};
 ghost use Rattle.dropping.specs.inside.Dropping.{handed, Dropped};
 
-use arena::words::{ADJUST, FORWARD, LEVEL, get, store, wide};
+use arena::words::{ADJUST, FORWARD, LEVEL, get, store};
 
 // Hands link k of a record over to the head: its forward and its adjust.
 fn hand_over(arena: &mut [u32], head: usize, r: usize, k: usize)
@@ -21,11 +21,9 @@ pub fn drop_first(arena: &mut [u32], head: usize)
     requires { (r : ℕ) × (rs : List ℕ) × Linked arena.old head (r ∷ rs) }
     ensures { (r : ℕ) (rs : List ℕ) → Linked arena.old head (r ∷ rs) → Dropped arena.old arena.new head r rs }
 {
-    let r = wide(get(arena, head, FORWARD));
-    let level = wide(get(arena, r, LEVEL));
-    let mut k = 0;
-    while k < level {
+    let r = get(arena, head, FORWARD) as usize;
+    let level = get(arena, r, LEVEL) as usize;
+    for k in 0..level {
         hand_over(arena, head, r, k);
-        k += 1;
     }
 }

@@ -6,7 +6,7 @@ ghost use Rattle.arena.specs.inside.Sums.{Suffixes, Renewed};
 ghost use Rattle.turning.specs.inside.Turning.{TakenOver, Turnable1, Turnable, Turned};
 
 use arena::sums::{enter, true_p};
-use arena::words::{ADJUST, BACK, FORWARD, LEVEL, M, P, get, store, wide};
+use arena::words::{ADJUST, BACK, FORWARD, LEVEL, M, P, get, store};
 use building::empty::clear_head;
 use building::prepend::hook;
 
@@ -16,12 +16,10 @@ fn turn_links(arena: &mut [u32], to: usize, r: usize, sums: &mut [u32])
     ensures hooked { Hooked 1 (level arena.old r) arena.old to r arena.new }
     ensures renewed { Renewed arena.old r sums.old sums.new }
 {
-    let mut l = wide(get(arena, r, LEVEL));
-    while 1 < l {
-        let k = l - 1;
-        sums[k] = std::num::wrapping_add_u32(sums[l], get(arena, r, ADJUST + k));
+    let level = get(arena, r, LEVEL) as usize;
+    for k in (1..level).rev() {
+        sums[k] = sums[k + 1].wrapping_add(get(arena, r, ADJUST + k));
         hook(arena, to, r, k);
-        l = k;
     }
 }
 
@@ -54,7 +52,7 @@ pub fn turn(arena: &mut [u32], from: usize, to: usize)
     let mut next = first;
     let mut last = 0;
     while next != 0 {
-        let r = wide(next);
+        let r = next as usize;
         let after = get(arena, r, FORWARD);
         turn_record(arena, to, r, last, &mut sums);
         store(arena, r, BACK, after);

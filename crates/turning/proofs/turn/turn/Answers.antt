@@ -1,6 +1,6 @@
 -- `turning::turn::turn` meets its contract.
 -- The loop keeps `Turning`, that all records are turned if those left are; the measure is their number, counted along the first link.
-use Rattle.std.proofs.Common.{rules}
+use Rattle.std.proofs.Common.{refl, rules}
 use Rattle.turning.proofs.TurnWalk.{cleared_enterable, turning_start, turning_head, turning_has, turning_can, turning_less, turning_more, turning_done}
 use Rattle.turning.proofs.turn.turn.Goals as goal
 
@@ -15,20 +15,20 @@ pub get-after-requires : goal.get-after-requires
 get-after-requires c = search (rules, turning_has)
 
 pub turn_record-requires : goal.turn_record-requires
-turn_record-requires c = turning_can _ _ _ _ _ _ _ _ c.loop-next.invariant c.loop-next-test.true _ c.wide-r.ensures
+turn_record-requires c = turning_can _ _ _ _ _ _ _ _ c.loop-next.invariant c.loop-next-test.true _ refl
 
 pub store-requires : goal.store-requires
 store-requires c =
-    let has = turning_has _ _ _ _ _ _ _ _ c.loop-next.invariant c.loop-next-test.true _ c.wide-r.ensures in
+    let has = turning_has _ _ _ _ _ _ _ _ c.loop-next.invariant c.loop-next-test.true _ refl in
     search rules
 
 pub loop-next-smaller : goal.loop-next-smaller
 loop-next-smaller c =
-    turning_less _ _ _ _ _ _ _ _ c.loop-next.invariant c.loop-next-test.true _ c.wide-r.ensures _ c.get-after.ensures _ c.turn_record.ensures.taken_over _ c.store.ensures
+    turning_less _ _ _ _ _ _ _ _ c.loop-next.invariant c.loop-next-test.true _ refl _ c.get-after.ensures _ c.turn_record.ensures.taken_over _ c.store.ensures
 
 pub loop-next-preserved : goal.loop-next-preserved
 loop-next-preserved c =
-    turning_more _ _ _ _ _ _ _ _ c.loop-next.invariant c.loop-next-test.true _ c.wide-r.ensures _ c.get-after.ensures _ c.turn_record.ensures.taken_over _ c.store.ensures _ c.turn_record.ensures.renewed (search rules) (search rules)
+    turning_more _ _ _ _ _ _ _ _ c.loop-next.invariant c.loop-next-test.true _ refl _ c.get-after.ensures _ c.turn_record.ensures.taken_over _ c.store.ensures _ c.turn_record.ensures.renewed (search rules) (search rules)
 
 pub store-requires-2 : goal.store-requires-2
 store-requires-2 c = search (rules, turning_head)
