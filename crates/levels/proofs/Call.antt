@@ -1,24 +1,22 @@
 -- What the levels call answers and leaves in its buffer: a law for each way out.
--- The reader's answer is the definition's, and the top level and the levels are those of the tree that it counted.
+-- The counts are those of the face that the file means, and the top level and the levels are those of the tree that it counted.
 use mathlib.Core.Path.{◌≡◌, refl, sym, ap, ◌∙◌}
 use mathlib.Core.List.{List}
 use Prim.Native.Nat.{ℕ, ◌≤◌}
 use native.Mathlib.Omega.{arith}
 use lib.ListN.{length}
-use Rattle.checks.specs.Check.{number_of}
 use Rattle.checks.specs.declared.Check.{Check}
-use Rattle.checks.specs.Answer.{Answer, refused, Asked, number}
+use Rattle.checks.specs.Answer.{Answer, refused, taken, Asked, number}
 use Rattle.checks.proofs.Answers.{same_taken}
 use Rattle.slicing.specs.Tree.{Tree, size_count, least_depth}
 use Rattle.slicing.proofs.Depths.{depth_few, least_most}
-use Rattle.facefile.specs.declared.Face.{Face}
+use Rattle.facefile.specs.declared.Counts.{Counts}
 use Rattle.facefile.specs.Format.{face_of}
-use Rattle.facefile.specs.Summary.{summary}
-use Rattle.facefile.proofs.Answered.{Counts}
+use Rattle.facefile.specs.Summary.{counted}
 use Rattle.facefile.proofs.Taken.{face_taken}
 use Rattle.lent.specs.Questions.{level_count}
 use Rattle.lent.proofs.Asking.{count_taken}
-use Rattle.lent.proofs.Calling.{counts, refused_by_file, refused_by_asked, asked_taken, taken_by_all}
+use Rattle.lent.proofs.Calling.{CountedFace, call_no_file, called, call_no_asked, call_goes}
 use Rattle.depths.specs.declared.Depths.{Depths}
 use Rattle.depths.specs.inside.Deep.{Deep}
 use Rattle.levels.specs.Levels.{top_level, levels_from, levels_of, levels_call, levels_filled}
@@ -47,48 +45,42 @@ module _ (file : List ℕ) (room : ℕ) (k : Fillable file room) where
       ∙ ap (λ (n : ℕ). top_level (size_count t) n d.most) depths.0
       ∙ ap (λ (n : ℕ). top_level (size_count t) (least_depth t) n) depths.1)
 
-module _ (file before : List ℕ) (f : Face) (known : f ≡ summary (face_of file)) where
+module _ (file before : List ℕ) where
   abbrev answer : Answer Tree
   answer = levels_call (face_of file) (length before)
 
-  abbrev asks : Tree → Asked
-  asks t = level_count (size_count t) (length before)
+  abbrev asked : Counts → Asked
+  asked n = level_count n.sizes (length before)
 
-  -- What the call promises of the number and of the buffer after it.
-  abbrev pub Promised : ℕ → List ℕ → Type 0
-  Promised r after = (r ≡ number answer) × (after ≡ levels_filled answer before)
+  -- What the call promises of its answer and of the buffer after it.
+  abbrev pub Promised : Asked → List ℕ → Type 0
+  Promised r after = (number r ≡ number answer) × (after ≡ levels_filled answer before)
 
-  refused_so : (r : ℕ) → (c : Check) × (answer ≡ refused c) × (r ≡ number_of c) → Promised r before
-  refused_so r bad = rw bad.1 (bad.2, refl)
+  refused_so : (c : Check) → answer ≡ refused c → Promised (refused c) before
+  refused_so c bad = rw bad (refl, refl)
 
-  pub call_refused : (f.number ≡ 0 → ⊥) → Promised f.number before
+  pub fill_no_file : (c : Check) → refused c ≡ counted (face_of file) → Promised (refused c) before
   unfolding levels_call
-  call_refused other = refused_so f.number (refused_by_file (face_of file) asks f known other)
+  fill_no_file c is = refused_so c (call_no_file (face_of file) asked c is)
 
-  module _ (zero : f.number ≡ 0) where
-    abbrev face : Counts f (face_of file)
-    face = counts (face_of file) asks f known zero
+  module _ (n : Counts) (read : taken n ≡ counted (face_of file)) where
+    pub fill_no_count : (c : Check) → refused c ≡ asked n → Promised (refused c) before
+    unfolding levels_call
+    fill_no_count c is = refused_so c (call_no_asked (face_of file) asked n read c is)
 
-    module _ (n : ℕ) (asked : n ≡ number (level_count f.sizes (length before))) where
-      of_tree : n ≡ number (asks face.tree)
-      of_tree = asked ∙ ap (λ (m : ℕ). number (level_count m (length before))) face.sizes
+    module _ (yes : taken tt ≡ asked n) where
+      abbrev face : CountedFace n (face_of file)
+      face = called (face_of file) asked n read
 
-      pub call_count : (n ≡ 0 → ⊥) → Promised n before
-      unfolding levels_call
-      call_count other = refused_so n (refused_by_asked (face_of file) asks f known zero n of_tree other)
+      pub fill_fits : Fillable file (length before)
+      fill_fits =
+          let same = count_taken n.sizes (length before) (sym yes) in
+          record {
+            tree = face.tree;
+            face = face.face;
+            as_many = same ∙ ap (λ (m : Counts). m.sizes) face.counts;
+          }
 
-      module _ (passed : n ≡ 0) where
-        pub call_fills : Fillable file (length before)
-        call_fills =
-            record {
-              tree = face.tree;
-              face = face.face;
-              as_many =
-                  count_taken (size_count face.tree) (length before)
-                  (asked_taken (face_of file) asks f known zero n of_tree passed);
-            }
-
-        pub call_taken : (after : List ℕ) → OwnLevels file after → Promised 0 after
-        unfolding levels_call OwnLevels
-        call_taken after own =
-            rw (taken_by_all (face_of file) asks f known zero n of_tree passed) (refl, own face.tree face.face)
+      pub fill_done : (after : List ℕ) → OwnLevels file after → Promised (taken tt) after
+      unfolding levels_call OwnLevels
+      fill_done after own = rw (call_goes (face_of file) asked n read yes) (refl, own face.tree face.face)

@@ -54,3 +54,5 @@ module _ (n d e : ℕ) where
 
   pub top_three : 2 * d < e → 512 ≤ n → n ≤ 512 → 3 ≡ top_level n d e
   top_three h many most = top_power 3 h (omega arith) (omega arith) many (omega arith)
+
+pub ruleset by_comparisons = (top_shallow, top_one, top_two, top_three)

@@ -8,7 +8,9 @@ ghost use Rattle.facefile.specs.Format.{face_of};
 ghost use Rattle.levels.specs.Levels.{uncut_level, top_level, levels_from, levels_call, levels_filled};
 ghost use Rattle.levels.specs.inside.Taken.{Fillable, OwnLevels};
 
+use checks::Check;
 use depths::{Depths, depths_of};
+use facefile::reader;
 
 // The level of size r before it is cut to the top level, for a size of a face: the trailing zero bits of r, halved, plus
 // one.
@@ -24,12 +26,11 @@ fn cut_level(r: usize, top: u8) -> u8
     requires { (1 ≤ r) × (r ≤ most_sizes) }
     ensures { result ≡ min (uncut_level r) top }
 {
-    let uncut = uncut_level(r);
-    if uncut < top as u32 { uncut as u8 } else { top }
+    uncut_level(r).min(u32::from(top)) as u8
 }
 
 // The top level of a face of n sizes.
-#[tactic(auto, using(crate::proofs::TopLevel::top_one))]
+#[tactic(auto, using(crate::proofs::TopLevel::by_comparisons))]
 fn top_level(n: usize, d: Depths) -> u8
     requires { (n ≤ most_sizes) × (d.least ≤ 63) }
     ensures { result ≡ top_level n d.least d.most }
@@ -37,24 +38,21 @@ fn top_level(n: usize, d: Depths) -> u8
     if d.most <= 2 * d.least {
         return 1;
     }
-    if n < 128 {
-        return 1;
+    match n {
+        0..128 => 1,
+        128..512 => 2,
+        _ => 3,
     }
-    if n < 512 {
-        return 2;
-    }
-    3
 }
 
 // Fills the buffer with the levels of sizes 1, 2 and so on, cut to the top level.
+#[tactic(auto, unfolding(crate::specs::Levels::levels_from))]
 fn fill_cut(levels: &mut [u8], top: u8)
     requires { length levels.old ≤ most_sizes }
     ensures { levels.new ≡ levels_from top 1 (length levels.old) }
 {
-    let mut i = 0;
-    while i < levels.len() {
-        levels[i] = cut_level(i + 1, top);
-        i += 1;
+    for (i, level) in levels.iter_mut().enumerate() {
+        *level = cut_level(i + 1, top);
     }
 }
 
@@ -68,20 +66,25 @@ pub fn fill_taken(file: &[u8], levels: &mut [u8])
     fill_cut(levels, top);
 }
 
+// Checks 1 to 14, then the levels of the face's sizes in the buffer, which has as many bytes.
+fn filled(file: &[u8], levels: &mut [u8]) -> Result<(), Check>
+    ensures value { number result ≡ number (levels_call (face_of file.now) (length levels.old)) }
+    ensures levels_after { levels.new ≡ levels_filled (levels_call (face_of file.now) (length levels.old)) levels.old }
+{
+    let counts = reader::counts(file)?;
+    lent::level_count(counts.sizes, levels.len())?;
+    fill_taken(file, levels);
+    Ok(())
+}
+
 // Checks 1 to 14, then the levels of the face's sizes in the buffer, which has as many bytes. A refusal leaves the
 // buffer as it was.
 pub fn fill(file: &[u8], levels: &mut [u8]) -> u32
     ensures value { result ≡ number (levels_call (face_of file.now) (length levels.old)) }
     ensures levels_after { levels.new ≡ levels_filled (levels_call (face_of file.now) (length levels.old)) levels.old }
 {
-    let face = facefile::read(file);
-    if face.number != checks::TAKEN {
-        return face.number;
+    match filled(file, levels) {
+        Ok(()) => 0,
+        Err(check) => check.number(),
     }
-    let number = lent::level_count_number(face.sizes, levels.len());
-    if number != checks::TAKEN {
-        return number;
-    }
-    fill_taken(file, levels);
-    checks::TAKEN
 }
