@@ -81,8 +81,7 @@ THEOREMS = [
 PROGRAMS = [
     ("input/src/lib.rt", "read_input"),
     ("input/src/lib.rt", "came"),
-    ("filter/src/reply.rt", "faces_reply"),
-    ("filter/src/reply.rt", "material_reply"),
+    ("filter/src/reply.rt", "reply"),
 ]
 
 IMPORT = re.compile(r"^(?:ghost |pub )*use Rattle\.(\w+)\.(specs|proofs)\.((?:inside\.)?\w+)\.\{([^}]*)\}", re.M)
@@ -129,7 +128,7 @@ def file_at(path):
 def clauses(path, call):
     """The clauses of a public function."""
     after = re.split(rf"pub fn {call}[(<]", file_at(path).text, maxsplit=1)[1]
-    return after[: after.index("\n{")]
+    return after[: re.search(r"\n *\{\n", after).start()]
 
 
 def statement(path, theorem):

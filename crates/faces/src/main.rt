@@ -2,8 +2,9 @@
 // one line such as `refused 4`."
 #![tactic(auto)]
 
+use filter::Faces;
 use std::process::ExitCode;
 
 fn main(rt: HostRuntime) -> ExitCode {
-    filter::run(&rt, rt.stdin())
+    filter::run::<Faces, _>(&rt, rt.stdin())
 }

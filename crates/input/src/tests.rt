@@ -30,8 +30,8 @@ fn whole(rt: HostRuntime) -> Result<(), Fail> {
     let mut room = [0u8; 5];
     let input = read_input(&mut source, &mut room);
     assert_eq!(rt; input.length, 3);
-    assert_eq!(rt; input.last, 0);
-    assert!(rt; came(input));
+    assert!(rt; matches!(input.outcome, Outcome::Whole));
+    assert!(rt; matches!(input.came(), Ok(3)));
     assert_eq!(rt; room, *b"abc\0\0");
     Ok(())
 }
@@ -42,25 +42,24 @@ fn cut_off(rt: HostRuntime) -> Result<(), Fail> {
     let mut room = [0u8; 2];
     let input = read_input(&mut source, &mut room);
     assert_eq!(rt; input.length, 2);
-    assert_eq!(rt; input.last, 2);
-    assert!(rt; came(input));
+    assert!(rt; matches!(input.outcome, Outcome::CutOff));
+    assert!(rt; matches!(input.came(), Ok(2)));
     assert_eq!(rt; room, *b"ab");
     Ok(())
 }
 
 #[test]
 fn failed(rt: HostRuntime) -> Result<(), Fail> {
-    let mut source = Source::new(Failing {
+    let mut source = Failing {
         left: 3,
         interrupted: false,
-    });
+    };
     let mut room = [0u8; 5];
     let input = read_input(&mut source, &mut room);
     assert_eq!(rt; input.length, 3);
-    assert_eq!(rt; input.last, -1);
-    assert!(rt; !came(input));
+    assert!(rt; matches!(input.outcome, Outcome::Failed(_)));
     assert_eq!(rt; room, *b"xxx\0\0");
-    let kind = source.error().map(|error| error.kind());
+    let kind = input.came().err().map(|error| error.kind());
     assert_eq!(rt; kind, Some(ErrorKind::BrokenPipe));
     Ok(())
 }

@@ -2,8 +2,9 @@
 // prints Paper 7's material sheet of that face, or one line such as `refused 4`.
 #![tactic(auto)]
 
+use filter::Material;
 use std::process::ExitCode;
 
 fn main(rt: HostRuntime) -> ExitCode {
-    filter::run_material(&rt, rt.stdin())
+    filter::run::<Material, _>(&rt, rt.stdin())
 }
