@@ -1,9 +1,11 @@
 -- What a caller of the reader knows: with the number 0 the file means a tree, whose gauges and sizes the answer counts; with any other it is refused by the check of that number.
 -- The answer is the definition's, and no check has the number 0.
-use mathlib.Core.Path.{◌≡◌, refl, sym, ap, ap₂}
+use mathlib.Core.Path.{◌≡◌, refl, sym, ap, ap₂, ◌∙◌}
+use mathlib.Core.Bool.{true, false}
 use mathlib.Core.List.{List, []}
 use Prim.Native.Nat.{ℕ, zero, suc, ◌<◌}
 use native.Mathlib.Omega.{arith}
+use Rattle.std.specs.Result.{is_err}
 use Rattle.checks.specs.Check.{number_of}
 use Rattle.checks.specs.declared.Check.{Check}
 use Rattle.checks.specs.Answer.{Answer, refused, taken}
@@ -53,19 +55,27 @@ counted_taken f (taken t) e z =
     ap₂ (λ (g s : ℕ). taken (record { gauges = g; sizes = s })) (ap (λ (x : Face). x.gauges) e) (ap (λ (x : Face). x.sizes) e)
 
 -- For the gauge-bytes call.
-pub face_tree : (f : Face) (file : List ℕ) → f ≡ summary (face_of file) → f.number ≡ 0 → (t : Tree) × (face_of file ≡ taken t)
-face_tree f file e z = let known = answer_taken f (face_of file) e z in (known.tree, known.face)
+pub face_tree : (a : Answer Counted) (file : List ℕ) → a ≡ counted (face_of file) → is_err a ≡ false → (t : Tree) × (face_of file ≡ taken t)
+unfolding counted
+face_tree a file e ok = by (face_of file) (ap is_err (sym e) ∙ ok)
+  where
+    by : (f : Answer Tree) → is_err (counted f) ≡ false → (t : Tree) × (f ≡ taken t)
+    by (refused c) h = cc
+    by (taken t) h = (t, refl)
 
-pub no_face : (f : Face) (file : List ℕ) (gauge : ℕ) → f ≡ summary (face_of file) → (f.number ≡ 0 → ⊥) → [] ≡ gauge_bytes (face_of file) gauge
-unfolding gauge_bytes
-no_face f file gauge e h =
-    let bad = answer_refused f (face_of file) e h in ap (λ (a : Answer Tree). gauge_bytes a gauge) (sym bad.1)
+pub no_face : (a : Answer Counted) (file : List ℕ) (gauge : ℕ) → a ≡ counted (face_of file) → is_err a ≡ true → [] ≡ gauge_bytes (face_of file) gauge
+unfolding counted gauge_bytes
+no_face a file gauge e bad = by (face_of file) (ap is_err (sym e) ∙ bad)
+  where
+    by : (f : Answer Tree) → is_err (counted f) ≡ true → [] ≡ gauge_bytes f gauge
+    by (refused c) h = refl
+    by (taken t) h = cc
 
-pub no_gauge : (file : List ℕ) (gauge : ℕ) → gauge < 1 → [] ≡ gauge_bytes (face_of file) gauge
+pub no_gauge : (file : List ℕ) (gauge : ℕ) → gauge < 1 → gauge_bytes (face_of file) gauge ≡ []
 unfolding gauge_bytes
 no_gauge file zero h = by (face_of file)
   where
-    by : (a : Answer Tree) → [] ≡ gauge_bytes a 0
+    by : (a : Answer Tree) → gauge_bytes a 0 ≡ []
     by (refused c) = refl
     by (taken t) = refl
 no_gauge file (suc k) h = absurd (omega arith)

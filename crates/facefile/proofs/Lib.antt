@@ -2,6 +2,9 @@ pub mod Taken
 pub mod Version1
 pub mod Refused
 pub mod SizeBytes
+pub mod EntryWalk
+pub mod EntrySteps
+pub mod EntryStack
 pub mod EntryBytes
 pub mod WalkSteps
 pub mod WalkStack

@@ -54,18 +54,16 @@ in_bytes zero s b h = refl
 in_bytes (suc k) s b h =
     sizes_more k s (sizes_in k (drop 4 s)) b h (in_bytes k (drop 4 s) (bytes_drop 4 s b) (omega (arith, length-drop 4 s)))
 
-bytes_take : (k : ℕ) (s : List ℕ) → Bytes s → Bytes (take k s)
+pub bytes_take : (k : ℕ) (s : List ℕ) → Bytes s → Bytes (take k s)
 bytes_take zero s h i = omega arith
 bytes_take (suc k) [] h i = omega arith
 bytes_take (suc k) (x ∷ s) h zero = h 0
 bytes_take (suc k) (x ∷ s) h (suc i) = bytes_take k s (λ j. h (suc j)) i
 
--- The bytes from one place to another, where they are those of n sizes.
-pub stretch_bytes : (n k from : ℕ) (s : List ℕ) → Bytes s → Sized n (take k (drop from s)) → take k (drop from s) ≡ size_bytes (sizes_in n (take k (drop from s)))
-stretch_bytes n k from s b sized =
-    let x = take k (drop from s) in
-    sym (ap (λ (j : ℕ). take j x) (sym sized) ∙ take-length x)
-    ∙ in_bytes n x (bytes_take k (drop from s) (bytes_drop from s b)) (omega arith)
+-- Bytes that are those of n sizes.
+pub whole_bytes : (n : ℕ) (s : List ℕ) → Bytes s → Sized n s → s ≡ size_bytes (sizes_in n s)
+whole_bytes n s b sized =
+    sym (ap (λ (j : ℕ). take j s) (sym sized) ∙ take-length s) ∙ in_bytes n s b (omega arith)
 
 pub sizes_bytes : (v count : ℕ) (s : List ℕ) (zs : List Item) → Bytes s → 4 * count ≤ length s → sizes_from (version_rules v) count s ≡ taken zs → take (4 * count) s ≡ size_bytes zs
 sizes_bytes v count s zs b h e = in_bytes count s b h ∙ ap size_bytes (sym (from_in v count s zs e))

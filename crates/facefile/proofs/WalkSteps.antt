@@ -1,25 +1,25 @@
 -- The walk over the entries of a taken file: where it begins, what it finds at a place and where it goes on, and where it ends.
 -- The reading took the entry at the place, so it is what the bytes there say, and what is left after it still gives the face.
 use mathlib.Core.Path.{◌≡◌, refl, ap, subst, ◌∙◌}
-use mathlib.Core.List.{List, [], ◌∷◌, cons≢nil}
-use Prim.Native.Nat.{ℕ, zero, suc, ◌+◌, ◌-◌, ◌*◌, ◌≤◌, ◌<◌}
+use mathlib.Core.List.{List, [], ◌∷◌}
+use Prim.Native.Nat.{ℕ, suc, ◌+◌, ◌-◌, ◌*◌, ◌≤◌, ◌<◌}
 use native.Mathlib.Omega.{arith}
 use lib.ListN.{length, get_or, drop, drop_of_length-le}
-use Rattle.checks.specs.Answer.{Answer, taken, next}
-use Rattle.checks.proofs.Answers.{same_taken, next_taken}
+use Rattle.checks.specs.Answer.{taken, next}
+use Rattle.checks.proofs.Answers.{next_taken}
 use Rattle.slicing.specs.Item.{Item}
 use Rattle.slicing.specs.Tree.{Tree, gauge}
 use Rattle.slicing.specs.Good.{Ordered}
-use Rattle.sizes.specs.Rules.{Rules}
 use Rattle.facefile.specs.declared.walk.GaugeEntry.{GaugeEntry}
 use Rattle.facefile.specs.declared.walk.Entry.{Entry}
 use Rattle.facefile.specs.declared.walk.Entry.TheVariants.{Gauge, Join}
-use Rattle.entries.specs.Entry.{State, entry, entries}
+use Rattle.entries.specs.Entry.{State, entries}
 use Rattle.facefile.specs.Format.{rules_of, start, at_end, face_of, header}
 use Rattle.sizes.specs.inside.Sizes.{sizes_in}
 use Rattle.facefile.specs.inside.Walk.{first_entry, state_at, Walk, size_bytes_of, GaugeAt, JoinBy, JoinAt, EntryAt, Finds}
-use Rattle.entries.proofs.Took.{state, Took, took_gauge, took_join, entry_took, Reads, reads_none, reads_more}
-use Rattle.facefile.proofs.Taken.{header_taken, end_taken, end_read}
+use Rattle.entries.proofs.Took.{state, Took, entry_took, Reads}
+use Rattle.facefile.proofs.EntryWalk.{entries_more, Taking, taking, no_entry}
+use Rattle.facefile.proofs.Taken.{header_taken, end_read}
 use Rattle.facefile.proofs.EntryBytes.{left_at, gauge_entry_at, TookJoin, gauge_read, join_read, bytes_long, bytes_sizes}
 
 pub walk_start : (file : List ℕ) (t : Tree) → face_of file ≡ taken t → Walk file t first_entry []
@@ -34,36 +34,6 @@ walk_start file t e =
       read = refl;
       left = head.0;
       gives = head.2;
-    }
-
--- One entry more after a run of entries.
-entries_more : (rules : Rules) (k : ℕ) (s t u : State) → entries rules k s ≡ taken t → entry rules t ≡ taken u → entries rules (suc k) s ≡ taken u
-unfolding entries
-entries_more rules zero s t u e f =
-    ap (λ (x : State). next (entry rules x) (entries rules zero)) (same_taken s t e)
-    ∙ ap (λ (a : Answer State). next a (entries rules zero)) f
-entries_more rules (suc k) s t u e f =
-    let first = next_taken (entry rules s) (entries rules k) t e in
-    ap (λ (a : Answer State). next a (entries rules (suc k))) first.1 ∙ entries_more rules k first.0 t u first.2 f
-
--- The next entry is taken, and what is left after it gives the face.
-pub record Taking (rules : Rules) (face : Tree) (s : State) : Type 0 where
-  pub after : State
-  pub takes : entry rules s ≡ taken after
-  pub left : ℕ
-  pub gives : next (entries rules left after) at_end ≡ taken face
-
-pub taking : (rules : Rules) (k : ℕ) (face : Tree) (s : State) → next (entries rules k s) at_end ≡ taken face → (s.rest ≡ [] → ⊥) → Taking rules face s
-unfolding entries at_end
-taking rules zero face s e some = absurd (some (end_taken s.stack s.rest face e).1)
-taking rules (suc k) face s e some =
-    let all = next_taken (next (entry rules s) (entries rules k)) at_end face e in
-    let first = next_taken (entry rules s) (entries rules k) all.0 all.1 in
-    record {
-      after = first.0;
-      takes = first.1;
-      left = k;
-      gives = ap (λ (a : Answer State). next a at_end) first.2 ∙ all.2;
     }
 
 -- A join that was taken at the place, behind which a walk by W goes on.
@@ -171,14 +141,6 @@ module _ (file : List ℕ) (face : Tree) (at : ℕ) (stack : List Tree) (w : Wal
 
   pub join_less : (kind behind : ℕ) → r ≡ Join kind behind → at < length file → length file - behind < length file - at
   join_less kind behind e more = let further = (found_join kind behind e).further in omega arith
-
-no_took : {rules : Rules} (s u : State) → Took rules s u → s.rest ≡ [] → ⊥
-no_took s u (took_gauge count bytes parts g z few some most present sized) e = cons≢nil e
-no_took s u (took_join kind cut bytes a b parts g c) e = cons≢nil e
-
-pub no_entry : {rules : Rules} (k : ℕ) (s f : State) → Reads rules k s f → s.rest ≡ [] → s.stack ≡ f.stack
-no_entry k s f (reads_none x) e = refl
-no_entry k s f (reads_more j x u y first rest) e = absurd (no_took s u first e)
 
 -- At the end of the file the face is the one part on the stack.
 pub walk_end : (file : List ℕ) (face : Tree) (at : ℕ) (stack : List Tree) → Walk file face at stack → length file ≤ at → stack ≡ face ∷ []

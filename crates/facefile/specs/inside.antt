@@ -1,3 +1,3 @@
 pub mod Ending
-pub mod Finding
+pub mod Entries
 pub mod Walk

@@ -2,6 +2,7 @@
 // bytes of a gauge.
 #![tactic(auto)]
 
+pub mod entry;
 pub mod reader;
 mod size_bytes;
 pub mod walk;
@@ -23,11 +24,4 @@ pub struct Face {
 pub struct Counts {
     pub gauges: usize,
     pub sizes: usize,
-}
-
-// A stretch of the file's bytes, from one place up to another.
-#[derive(Clone, Copy)]
-struct Stretch {
-    pub from: usize,
-    pub to: usize,
 }

@@ -21,7 +21,8 @@ use Rattle.facefile.specs.declared.walk.Entry.{Entry}
 use Rattle.facefile.specs.declared.walk.Entry.TheVariants.{Gauge, Join}
 use Rattle.facefile.proofs.Taken.{end_read}
 use Rattle.facefile.proofs.EntryBytes.{at_place, past_place, left_at, not_gauge, join_read}
-use Rattle.facefile.proofs.WalkSteps.{Taking, taking, join_found, no_entry}
+use Rattle.facefile.proofs.EntryWalk.{Taking, taking, no_entry}
+use Rattle.facefile.proofs.WalkSteps.{join_found}
 use Rattle.writing.specs.Words.{list_words}
 use Rattle.facewords.specs.Words.{word_rules, first_word, words_start, words_face}
 use Rattle.facewords.specs.inside.WordWalk.{WordWalk, GaugeWordsAt, WordEntryAt, WordFinds}

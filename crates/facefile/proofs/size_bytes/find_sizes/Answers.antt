@@ -1,29 +1,30 @@
 -- `facefile::size_bytes::find_sizes` meets its contract.
--- The loop keeps `Seeking`, that the gauges passed and those to come are together the number sought; the measure is the bytes left.
-use borrow.Author.Rules.{rules}
-use Rattle.facefile.proofs.WalkSteps.{gauge_less, join_less}
+-- The loop keeps `Seeking`, that the gauges passed, the sought one and those to come before it are together the number sought.
+use native.Mathlib.Omega.{arith}
+use Rattle.facefile.proofs.Answered.{no_gauge}
 use Rattle.facefile.proofs.Seeking.{seek_start, seek_found, seek_next, seek_join, seek_end}
 use Rattle.facefile.proofs.size_bytes.find_sizes.Goals as goal
 
-pub loop-at-init : goal.loop-at-init
-loop-at-init c = search (rules, seek_start)
+pub returns-in_err-left-clause-none : goal.returns-in_err-left-clause-none
+returns-in_err-left-clause-none c =
+    let some = c.in_err-left.ensures in rw c.from_residual.ensures (no_gauge _ _ (omega arith))
 
-pub returns-then-left-le1 : goal.returns-then-left-le1
-returns-then-left-le1 c =
-    seek_found _ _ _ _ c.loop-at.invariant _ c.entry_at.ensures _ c.in-Gauge.is
-    (λ i. (c.shared_slice_known-1.given i).fits) c.if-left-le1.true
+pub loop-entry-init : goal.loop-entry-init
+loop-entry-init c =
+    let left = c.in_ok-left.ensures in
+    seek_start _ _ _ _ _ (λ i. (c.type_inv.file i).fits) c.requires c.of-entry-items.ensures c.into_iter-entry-iterator.ensures.into_iter_gives (omega arith)
 
-pub loop-at-smaller-in-Gauge : goal.loop-at-smaller-in-Gauge
-loop-at-smaller-in-Gauge c = search (rules, gauge_less)
+pub returns-then-left-eq0-clause-some : goal.returns-then-left-eq0-clause-some
+returns-then-left-eq0-clause-some c =
+    seek_found _ _ _ _ _ c.loop-entry.invariant _ c.in-Some.ensures.steps _ c.in-Gauge.is c.if-left-eq0.true
 
-pub loop-at-preserved-in-Gauge : goal.loop-at-preserved-in-Gauge
-loop-at-preserved-in-Gauge c = search (rules, seek_next)
+pub loop-entry-preserved-in-Gauge : goal.loop-entry-preserved-in-Gauge
+loop-entry-preserved-in-Gauge c =
+    seek_next _ _ _ _ _ c.loop-entry.invariant _ c.in-Some.ensures.steps _ c.in-Gauge.is c.if-left-eq0.false
 
-pub loop-at-smaller : goal.loop-at-smaller
-loop-at-smaller c = search (rules, join_less)
+pub loop-entry-preserved : goal.loop-entry-preserved
+loop-entry-preserved c =
+    seek_join _ _ _ _ _ c.loop-entry.invariant _ c.in-Some.ensures.steps _ c.in_default.is
 
-pub loop-at-preserved : goal.loop-at-preserved
-loop-at-preserved c = search (rules, seek_join)
-
-pub returns : goal.returns
-returns c = search (rules, seek_end)
+pub returns-clause-none : goal.returns-clause-none
+returns-clause-none c = seek_end _ _ _ _ _ c.loop-entry.invariant _ c.in-None.is c.next.ensures.steps
