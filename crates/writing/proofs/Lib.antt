@@ -2,4 +2,4 @@ pub mod ListWalk
 pub mod WordLaws
 pub mod ItemLaws
 pub mod Heights
-pub mod Widths
+pub mod Backwards

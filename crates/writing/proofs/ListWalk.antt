@@ -1,8 +1,8 @@
--- A walk along a list by the first link: what holds of the whole list and of the records left is kept record by record, and at the end no record is left; so the records are counted.
+-- A walk along a list by the first link: what holds of the whole list and of the records left is kept record by record, and at the end no record is left.
 -- The records left are a chain that begins with the next record, so that the walk meets them one by one and ends at 0.
 use mathlib.Core.Path.{◌≡◌, sym, subst, ◌∙◌}
 use mathlib.Core.List.{List, [], ◌∷◌}
-use Prim.Native.Nat.{ℕ, ◌+◌, ◌≤◌, ◌<◌}
+use Prim.Native.Nat.{ℕ, ◌≤◌, ◌<◌}
 use native.Mathlib.Omega.{arith}
 use lib.ListN.{length}
 use Rattle.arena.specs.Arena.{word, forward_at}
@@ -10,7 +10,6 @@ use Rattle.arena.specs.Lazy.{next_with}
 use Rattle.arena.specs.inside.Chain.{Has, Member, Chain, Linked}
 use Rattle.arena.specs.inside.Sums.{Summable}
 use Rattle.arena.proofs.Walking.{count, next_none, next_first, next_second, count_is, one_list}
-use Rattle.writing.specs.inside.Writing.{Countable}
 
 -- Of the list rs of the head h the records qs are left, the first of them is `next`, and P holds of both.
 pub record Walk (a : List ℕ) (h next : ℕ) (P : List ℕ → List ℕ → Type 0) : Type 0 where
@@ -108,33 +107,3 @@ walk_done a h next P w e rs linked =
         let g = next_first a q qs chain.0 in
         let some = chain.0.some in
         absurd (omega arith)
-
--- Counting: the records counted and those left are all.
-pub record Counted (n : ℕ) (rs qs : List ℕ) : Type 0 where
-  pub all : n + length qs ≡ length rs
-  pub few : length rs ≤ 512
-
-abbrev pub Counting : List ℕ → ℕ → ℕ → ℕ → Type 0
-Counting a h next n = Walk a h next (Counted n)
-
-pub counting_start : (a : List ℕ) (h next : ℕ) → (rs : List ℕ) × Countable a h rs → next ≡ word a h forward_at → Counting a h next 0
-counting_start a h next (rs, t) e =
-    walk_start a h rs next (Counted 0) t.linked t.few e (record { all = omega arith; few = t.few })
-
-pub counting_low : (a : List ℕ) (h next n : ℕ) → Counting a h next n → n ≤ 512
-counting_low a h next n w =
-    let all = w.state.all in
-    let few = w.state.few in
-    omega arith
-
-pub counting_more : (a : List ℕ) (h next n : ℕ) → Counting a h next n → (next ≡ 0 → ⊥) → (r : ℕ) → r ≡ next → (v : ℕ) → v ≡ word a r forward_at → Counting a h v (n + 1)
-counting_more a h next n w some r same v e =
-    walk_more a h next (Counted n) w some r same v e (Counted (n + 1))
-    (λ rs qs s.
-    let all = s.all in
-    record { all = omega arith; few = s.few })
-
-pub counting_done : (a : List ℕ) (h next n : ℕ) → Counting a h next n → next ≡ 0 → (rs : List ℕ) → Countable a h rs → n ≡ length rs
-counting_done a h next n w e rs t =
-    let all = (walk_done a h next (Counted n) w e rs t.linked).all in
-    omega arith

@@ -1,9 +1,8 @@
--- The words of items: how many they are, what one more item at either end of them writes, and that items written one by one from the start, or from the end, are their words over the buffer.
+-- The words of items: how many they are, what one more item at either end of them writes, and that items written one by one from the start are their words over the buffer.
 -- Each goes down the words; a store past the words written leaves them.
 use mathlib.Core.Path.{◌≡◌, refl, ap, ap₂, ◌∙◌}
 use mathlib.Core.List.{List, [], ◌∷◌, ◌++◌}
 use Prim.Native.Nat.{ℕ, suc, ◌+◌, ◌*◌, ◌≤◌}
-use native.Mathlib.Nat.{suc-add}
 use native.Mathlib.Numerals.{add-one}
 use native.Mathlib.Omega.{arith}
 use lib.ListN.{length, set, drop, length-set}
@@ -44,17 +43,6 @@ unfolding item_at
 sets_more out at x y ws =
     let two : at + 2 ≡ suc (suc at) = omega arith in
     ap₂ (λ (i : ℕ) (j : ℕ). sets (set (set out at x) i y) j ws) (add-one at) two
-
--- An item behind the words, and then the words.
-pub over_more : (ws out : List ℕ) (x y : ℕ) → length ws + 2 ≤ length out → written_over ws (item_at out (length ws) x y) ≡ written_over (ws ++ (x ∷ y ∷ [])) out
-unfolding written_over item_at
-over_more [] [] x y room = absurd (omega arith)
-over_more [] (o ∷ []) x y room = absurd (omega arith)
-over_more [] (o ∷ p ∷ out) x y room = refl
-over_more (w ∷ ws) [] x y room = absurd (omega arith)
-over_more (w ∷ ws) (o ∷ out) x y room =
-    ap (λ (i : ℕ). (w ∷ ws) ++ drop (suc (length ws)) (set (set (o ∷ out) (suc (length ws)) x) i y)) (suc-add (length ws) 1)
-    ∙ ap (λ (l : List ℕ). w ∷ l) (over_more ws out x y (omega arith))
 
 pub length_item : (out : List ℕ) (at x y : ℕ) → length (item_at out at x y) ≡ length out
 unfolding item_at

@@ -5,24 +5,10 @@ ghost use Rattle.slicing.specs.Merge.{turn};
 ghost use Rattle.arena.specs.Lazy.{held};
 ghost use Rattle.lent.specs.Lent.{written_over};
 ghost use Rattle.writing.specs.Words.{list_words};
-ghost use Rattle.writing.specs.inside.Writing.{Countable, Counts, Listable, item_at};
+ghost use Rattle.writing.specs.inside.Writing.{Listable, item_at};
 
 use arena::sums::{enter, pass, true_p};
 use arena::words::{FORWARD, M, get, wide};
-
-// The number of records of a list.
-fn count_items(arena: &[u32], head: usize) -> usize
-    requires { (rs : List ℕ) × Countable arena.now head rs }
-    ensures { Counts arena.now head result }
-{
-    let mut next = get(arena, head, FORWARD);
-    let mut count = 0;
-    while next != 0 {
-        next = get(arena, wide(next), FORWARD);
-        count += 1;
-    }
-    count
-}
 
 // Writes one item at a place.
 fn write_item(output: &mut [u32], at: usize, height: u32, width: u32)
@@ -54,25 +40,14 @@ pub fn write_by_height(arena: &[u32], head: usize, output: &mut [u32]) -> usize
     at / 2
 }
 
-// Writes the items of a list whose m is the width: the list turned, so its items in turn from the last place to the
-// buffer's start. Answers their number.
+// Writes the items of a list whose m is the width: the list turned, so its words from the last to the first. Answers their
+// number.
+#[tactic(auto, using(crate::proofs::Backwards::turned_over))]
 pub fn write_by_width(arena: &[u32], head: usize, output: &mut [u32]) -> usize
     requires { (rs : List ℕ) × Listable arena.now head rs output.old }
     ensures { (rs : List ℕ) → Listable arena.now head rs output.old → (result ≡ length rs) × (output.new ≡ written_over (list_words (turn (items (held arena.now head [] rs)))) output.old) }
 {
-    let count = count_items(arena, head);
-    let mut sums = [0u32; 9];
-    enter(arena, head, &mut sums);
-    let mut next = get(arena, head, FORWARD);
-    let mut at = 2 * count;
-    while next != 0 {
-        let r = wide(next);
-        next = get(arena, r, FORWARD);
-        let width = get(arena, r, M);
-        let height = true_p(arena, r, &sums);
-        at -= 2;
-        write_item(output, at, height, width);
-        pass(arena, r, &mut sums);
-    }
+    let count = write_by_height(arena, head, output);
+    output[..2 * count].reverse();
     count
 }

@@ -1,22 +1,13 @@
 -- What the functions that write the items of a list of an arena into a buffer ask and leave: the list is linked, and the buffer has two words for each of its records. No public contract cites it.
-use Rattle.std.specs.Prelude.{◌≡◌, List, ℕ, ◌+◌, ◌*◌, ◌≤◌, length, set}
+use Rattle.std.specs.Prelude.{List, ℕ, ◌+◌, ◌*◌, ◌≤◌, length, set}
 use Rattle.checks.specs.Limits.{most_sizes}
 use Rattle.arena.specs.inside.Chain.{Linked}
 
--- The records rs are the list of the head h, at most 512 of them.
-pub record Countable (a : List ℕ) (h : ℕ) (rs : List ℕ) : Type 0 where
-  pub linked : Linked a h rs
-  pub few : length rs ≤ most_sizes
-
--- The same, and there is room for their items.
+-- The records rs are the list of the head h, at most 512 of them, and there is room for their items.
 pub record Listable (a : List ℕ) (h : ℕ) (rs out : List ℕ) : Type 0 where
   pub linked : Linked a h rs
   pub few : length rs ≤ most_sizes
   pub room : 2 * length rs ≤ length out
-
--- n is the number of the records of the head's list.
-abbrev pub Counts : List ℕ → ℕ → ℕ → Type 0
-Counts a h n = (rs : List ℕ) → Countable a h rs → n ≡ length rs
 
 -- The buffer with an item's two words at a place.
 unfoldable pub item_at : List ℕ → ℕ → ℕ → ℕ → List ℕ
