@@ -3,8 +3,9 @@
 use mathlib.Core.Path.{◌≡◌, refl, sym, ap, subst, ◌∙◌}
 use mathlib.Core.Bool.{Bool, true, ◌&&◌, and-eq-true_iff}
 use mathlib.Core.List.{List, [], ◌∷◌, ◌++◌}
-use Prim.Native.Nat.{ℕ, zero, suc, ◌+◌, ◌≤◌, ◌<◌}
+use Prim.Native.Nat.{ℕ, zero, suc, ◌≤◌, ◌<◌}
 use native.Mathlib.Omega.{arith}
+use Rattle.std.specs.Prelude.{Option, Some}
 use lib.Dec.{leb, ltb, eqb}
 use borrow.Author.Tests.{ltb-true, leb-true, eqb-true, lt-ltb, le-ltb, le-leb, eq-eqb}
 use Rattle.checks.specs.declared.Check.TheVariants.{LazyList}
@@ -18,7 +19,8 @@ use Rattle.arena.proofs.Cases.{lt_or_ge}
 use Rattle.arena.proofs.Frames.{next_here, next_past}
 use Rattle.arena.proofs.ListLaws.{last_more}
 use Rattle.arena.proofs.BackLaws.{last_of_more}
-use Rattle.holding.specs.inside.Pass.{Follows}
+use Rattle.holding.specs.declared.items.Item.{Item as Laid}
+use Rattle.holding.specs.inside.Pass.{in_row, Follows}
 
 -- Both of two tests hold where each does.
 pub each : (x y : Bool) → x ≡ true → y ≡ true → (x && y) ≡ true
@@ -94,49 +96,53 @@ unfolding walk
 walk_full a zero rs h e = h refl
 walk_full a (suc r) rs h e = not_both LazyList rs e
 
--- The items: where `count` is not 0, the first follows (m, p).
-abbrev pub Under : ℕ → ℕ → ℕ → List Recorded → Type 0
-Under count m p [] = Unit {0}
-Under count m p (x ∷ l) = Follows count m p x.item.m x.item.p
+-- The items: the first follows the one before, where there is one.
+abbrev pub Under : Option Laid → List Recorded → Type 0
+Under before [] = Unit {0}
+Under before (x ∷ l) = Follows before (in_row x.item)
 
-falling_under : (x : Recorded) (l : List Recorded) (count : ℕ) → falling (x ∷ l) ≡ true → Under count x.item.m x.item.p l × (falling l ≡ true)
+falling_under : (x : Recorded) (l : List Recorded) → falling (x ∷ l) ≡ true → Under (Some (in_row x.item)) l × (falling l ≡ true)
 unfolding falling
-falling_under x [] count e = (tt, refl)
-falling_under x (y ∷ l) count e =
+falling_under x [] e = (tt, refl)
+falling_under x (y ∷ l) e =
     let first = (and-eq-true_iff (ltb y.item.m x.item.m) (ltb x.item.p y.item.p && falling (y ∷ l))).0 e in
     let second = (and-eq-true_iff (ltb x.item.p y.item.p) (falling (y ∷ l))).0 first.1 in
-    (λ _. (ltb-true _ _ first.0, ltb-true _ _ second.0), second.1)
+    ((ltb-true _ _ first.0, ltb-true _ _ second.0), second.1)
 
-under_falling : (x : Recorded) (l : List Recorded) (count : ℕ) → (count ≡ 0 → ⊥) → Under count x.item.m x.item.p l → falling l ≡ true → falling (x ∷ l) ≡ true
+under_falling : (x : Recorded) (l : List Recorded) → Under (Some (in_row x.item)) l → falling l ≡ true → falling (x ∷ l) ≡ true
 unfolding falling
-under_falling x [] count h u e = refl
-under_falling x (y ∷ l) count h u e = let t = u h in rw (lt-ltb _ _ t.0, lt-ltb _ _ t.1, e)
+under_falling x [] u e = refl
+under_falling x (y ∷ l) u e = rw (lt-ltb _ _ u.0, lt-ltb _ _ u.1, e)
 
--- The records rs follow those passed, on a walk of at most `most` more, and after the item (m, p) where `count` is not 0.
-pub record Rest (a : List ℕ) (most : ℕ) (passed : List ℕ) (count m p : ℕ) (rs : List ℕ) : Type 0 where
+-- The records rs follow those passed, on a walk of at most `most` more, and the item before them where there is one.
+pub record Rest (a : List ℕ) (most : ℕ) (passed : List ℕ) (before : Option Laid) (rs : List ℕ) : Type 0 where
   pub walks : walk most a (due a passed 0) ≡ taken rs
   pub links : (k : ℕ) → k < 8 → due a passed k ≡ next_with a k rs
   pub chain : linked a rs ≡ true
   pub falls : falling (held a 0 passed rs) ≡ true
-  pub under : Under count m p (held a 0 passed rs)
+  pub under : Under before (held a 0 passed rs)
   pub backs : backs_right a (last_of 0 passed) rs ≡ true
 
+-- The item of the next record r.
+abbrev pub come : List ℕ → List ℕ → ℕ → Laid
+come a passed r = record { m = m_word a r; p = true_p a 0 passed r }
+
 -- Record r can come next.
-pub record Meets (a passed : List ℕ) (count m p r : ℕ) : Type 0 where
+pub record Meets (a passed : List ℕ) (before : Option Laid) (r : ℕ) : Type 0 where
   pub few : r ≤ 512
   pub behind : back a r ≡ last_of 0 passed
   pub some : 1 ≤ level a r
   pub most : level a r ≤ 8
   pub links : (k : ℕ) → k < level a r → due a passed k ≡ r
-  pub follows : Follows count m p (m_word a r) (true_p a 0 passed r)
+  pub follows : Follows before (come a passed r)
 
-pub record Turn (a : List ℕ) (most : ℕ) (passed : List ℕ) (count m p r : ℕ) : Type 0 where
-  pub meets : Meets a passed count m p r
+pub record Turn (a : List ℕ) (most : ℕ) (passed : List ℕ) (before : Option Laid) (r : ℕ) : Type 0 where
+  pub meets : Meets a passed before r
   pub rest : List ℕ
-  pub after : Rest a most (passed ++ (r ∷ [])) (count + 1) (m_word a r) (true_p a 0 passed r) rest
+  pub after : Rest a most (passed ++ (r ∷ [])) (Some (come a passed r)) rest
 
-module _ (a : List ℕ) (most : ℕ) (passed : List ℕ) (count m p r : ℕ) (here : due a passed 0 ≡ r) (more : r ≡ 0 → ⊥) where
-  turn_of : (rest : List ℕ) → r ≤ 512 → walk most a (forward a r 0) ≡ taken rest → Rest a (suc most) passed count m p (r ∷ rest) → Turn a most passed count m p r
+module _ (a : List ℕ) (most : ℕ) (passed : List ℕ) (before : Option Laid) (r : ℕ) (here : due a passed 0 ≡ r) (more : r ≡ 0 → ⊥) where
+  turn_of : (rest : List ℕ) → r ≤ 512 → walk most a (forward a r 0) ≡ taken rest → Rest a (suc most) passed before (r ∷ rest) → Turn a most passed before r
   unfolding linked held backs_right
   turn_of rest few walks k =
       let one = (and-eq-true_iff (leb 1 (level a r)) (leb (level a r) 8 && (links_right a r rest (level a r) && linked a rest))).0 k.chain in
@@ -144,7 +150,7 @@ module _ (a : List ℕ) (most : ℕ) (passed : List ℕ) (count m p r : ℕ) (he
       let three = (and-eq-true_iff (links_right a r rest (level a r)) (linked a rest)).0 two.1 in
       let some = leb-true 1 (level a r) one.0 in
       let own = links_each a r rest (level a r) three.0 in
-      let order = falling_under _ _ (count + 1) k.falls in
+      let order = falling_under _ _ k.falls in
       let behind = (and-eq-true_iff (eqb (back a r) (last_of 0 passed)) (backs_right a r rest)).0 k.backs in
       record {
         meets =
@@ -172,13 +178,13 @@ module _ (a : List ℕ) (most : ℕ) (passed : List ℕ) (count m p r : ℕ) (he
       }
 
   -- What follows the passed records begins with r, and the rest follows r.
-  pub turn : (rs : List ℕ) → Rest a (suc most) passed count m p rs → Turn a most passed count m p r
+  pub turn : (rs : List ℕ) → Rest a (suc most) passed before rs → Turn a most passed before r
   turn rs k =
       let onward = walk_onward a most r rs more (ap (λ (x : ℕ). walk (suc most) a x) (sym here) ∙ k.walks) in
-      turn_of onward.rest onward.few onward.walks (subst (λ (l : List ℕ). Rest a (suc most) passed count m p l) onward.same k)
+      turn_of onward.rest onward.few onward.walks (subst (λ (l : List ℕ). Rest a (suc most) passed before l) onward.same k)
 
   -- What follows r, with r before it, follows the passed records.
-  pub turn_back : (rest : List ℕ) → Meets a passed count m p r → Rest a most (passed ++ (r ∷ [])) (count + 1) (m_word a r) (true_p a 0 passed r) rest → Rest a (suc most) passed count m p (r ∷ rest)
+  pub turn_back : (rest : List ℕ) → Meets a passed before r → Rest a most (passed ++ (r ∷ [])) (Some (come a passed r)) rest → Rest a (suc most) passed before (r ∷ rest)
   unfolding linked held backs_right
   turn_back rest z k =
       let some = z.some in
@@ -193,33 +199,33 @@ module _ (a : List ℕ) (most : ℕ) (passed : List ℕ) (count m p r : ℕ) (he
         chain =
             each (leb 1 (level a r)) _ (le-leb 1 (level a r) some)
             (each (leb (level a r) 8) _ (le-leb (level a r) 8 z.most) (each (links_right a r rest (level a r)) (linked a rest) own k.chain));
-        falls = under_falling _ _ (count + 1) (λ e. absurd (omega arith)) k.under k.falls;
+        falls = under_falling _ _ k.under k.falls;
         under = z.follows;
         backs =
             each (eqb (back a r) (last_of 0 passed)) (backs_right a r rest) (eq-eqb _ _ z.behind)
             (ap (λ (x : ℕ). backs_right a x rest) (sym (last_of_more 0 passed r)) ∙ k.backs);
       }
 
-module _ (a : List ℕ) (most : ℕ) (passed : List ℕ) (count m p : ℕ) where
+module _ (a : List ℕ) (most : ℕ) (passed : List ℕ) (before : Option Laid) where
   -- No record may follow on a walk that may meet no more.
-  pub rest_full : (rs : List ℕ) → (due a passed 0 ≡ 0 → ⊥) → Rest a 0 passed count m p rs → ⊥
+  pub rest_full : (rs : List ℕ) → (due a passed 0 ≡ 0 → ⊥) → Rest a 0 passed before rs → ⊥
   rest_full rs h k = walk_full a (due a passed 0) rs h k.walks
 
   -- Where no record is due with link 0, none is due with another.
-  pub rest_over : (rs : List ℕ) → due a passed 0 ≡ 0 → Rest a most passed count m p rs → (k : ℕ) → k < 8 → due a passed k ≡ 0
+  pub rest_over : (rs : List ℕ) → due a passed 0 ≡ 0 → Rest a most passed before rs → (k : ℕ) → k < 8 → due a passed k ≡ 0
   unfolding next_with
   rest_over rs h z k b =
       let none = walk_over a most (due a passed 0) rs h z.walks in
       z.links k b ∙ ap (λ (l : List ℕ). next_with a k l) none
 
   -- The last record passed is then the head's back word.
-  pub rest_back : (rs : List ℕ) → due a passed 0 ≡ 0 → Rest a most passed count m p rs → back a 0 ≡ last_of 0 passed
+  pub rest_back : (rs : List ℕ) → due a passed 0 ≡ 0 → Rest a most passed before rs → back a 0 ≡ last_of 0 passed
   unfolding backs_right
   rest_back rs h z =
       let none = walk_over a most (due a passed 0) rs h z.walks in
       eqb-true (back a 0) (last_of 0 passed) (ap (λ (l : List ℕ). backs_right a (last_of 0 passed) l) (sym none) ∙ z.backs)
 
-  pub rest_none : ((k : ℕ) → k < 8 → due a passed k ≡ 0) → back a 0 ≡ last_of 0 passed → Rest a most passed count m p []
+  pub rest_none : ((k : ℕ) → k < 8 → due a passed k ≡ 0) → back a 0 ≡ last_of 0 passed → Rest a most passed before []
   unfolding next_with linked held falling backs_right
   rest_none f behind =
       record {

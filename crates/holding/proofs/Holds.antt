@@ -56,12 +56,12 @@ unfolding last_with last_of
 holds_lazy a rs l b low few o =
     let top = l.top in
     let links : (k : ℕ) → k < 8 → forward a 0 k ≡ next_with a k rs = λ k h. l.links.at k (omega arith) in
-    rest_lazy a 0 0 top rs
+    rest_lazy a top rs
     (record {
       walks = ap (walk 512 a) (links 0 (omega arith)) ∙ chain_walk 512 a rs l.chain low few;
       links = links;
       chain = chain_linked a rs l.chain;
       falls = ordered_falling (held a 0 [] rs) o;
-      under = under_first 0 0 (held a 0 [] rs);
+      under = under_first (held a 0 [] rs);
       backs = backs_right_of a 0 rs b.backs b.head;
     })

@@ -1,4 +1,3 @@
-pub mod FollowTests
 pub mod Following
 pub mod Answering
 pub mod ReadingWalk

@@ -1,18 +1,19 @@
--- What the walk of a reading call keeps: the records passed make due the records that the row of links names, the sums lead to the next one, their items stand in the rows, and the arena holds a list just where what is left of the walk can follow them.
+-- What the walk of a reading call keeps: the records passed make due the records that the row of links names, the sums lead to the next one, their items stand in the row, and the arena holds a list just where what is left of the walk can follow them.
 -- A turn settles the links of one record more, puts its forwards in their places of the row of links, renews the sums below its level, and lays its item out.
 use mathlib.Core.Path.{◌≡◌, refl, sym, ap, subst, ◌∙◌}
-use mathlib.Core.Bool.{Bool, true, false, not}
+use mathlib.Core.Bool.{Bool, true, false}
 use mathlib.Core.List.{List, [], ◌∷◌, ◌++◌, append-nil, append_assoc, map-append}
 use Prim.Native.Nat.{ℕ, suc, ◌+◌, ◌-◌, ◌≤◌, ◌<◌}
 use native.Mathlib.Omega.{arith}
 use lib.ListN.{length, get_or, set, replicate, length-append, length-map, length-set, get_or-append}
 use lib.Seq.{get_or_at, get_or-set_same, get_or-set_other}
 use Rattle.checks.specs.Limits.{buffer_words, most_sizes}
-use Rattle.checks.specs.Answer.{taken}
+use Rattle.std.specs.Prelude.{Option, Some, None}
+use Rattle.checks.specs.declared.Check.TheVariants.{LazyList}
+use Rattle.checks.specs.Answer.{refused, taken}
 use Rattle.slicing.specs.Item.{Item, size}
 use Rattle.slicing.specs.Recorded.{Recorded, items}
-use Rattle.holding.specs.declared.items.Item.{Item as Read}
-use Rattle.holding.specs.declared.items.Counted.{Counted}
+use Rattle.holding.specs.declared.items.Item.{Item as Laid}
 use Rattle.arena.specs.Arena.{word, level, m_word, adjust, back}
 use Rattle.arena.specs.Lazy.{last_with, true_p, held, lazy_list}
 use Rattle.arena.specs.inside.Chain.{p_under, after}
@@ -24,10 +25,10 @@ use Rattle.arena.proofs.ListLaws.{held_length}
 use Rattle.arena.proofs.HeldLaws.{passed_sums, sums_on}
 use Rattle.arena.proofs.BackLaws.{last_of_more}
 use Rattle.forwards.specs.inside.Due.{Decides, Are, Passed}
-use Rattle.holding.specs.inside.Pass.{Rows, LaidOut, Stands, Follows}
+use Rattle.holding.specs.inside.Pass.{in_row, Lies, LaidOut, Stands, Follows}
 use Rattle.forwards.proofs.Decisions.{decided, refuted}
-use Rattle.holding.proofs.Following.{due, due_here, due_past, Rest, Meets, Turn, turn, turn_back, rest_full, rest_over, rest_back, rest_none}
-use Rattle.holding.proofs.Answering.{uncounted, lazy_rest, rest_lazy, no_list, list_laid}
+use Rattle.holding.proofs.Following.{due, due_here, due_past, come, Rest, Meets, Turn, turn, turn_back, rest_full, rest_over, rest_back, rest_none}
+use Rattle.holding.proofs.Answering.{lazy_rest, rest_lazy, no_list, list_laid}
 
 -- The row of links names the records that are due after those passed.
 abbrev pub Dues : List ℕ → List ℕ → List ℕ → Type 0
@@ -66,25 +67,25 @@ held_more a before (x ∷ xs) r =
 size_items : (a xs : List ℕ) → length (items (held a 0 [] xs)) ≡ length xs
 size_items a xs = length-map (held a 0 [] xs) (λ (r : Recorded). r.item) ∙ held_length a 0 [] xs
 
--- One more item in the rows.
-rows_more : (l : List Item) (ms ps : List ℕ) (n m p : ℕ) → length l ≡ n → n < length ms → n < length ps → Rows l ms ps → Rows (l ++ (size m p ∷ [])) (set ms n m) (set ps n p)
-rows_more l ms ps n m p long room_m room_p k =
+-- One more item in the row.
+lies_more : (l : List Item) (row : List Laid) (n : ℕ) (x : Laid) → length l ≡ n → n < length row → Lies l row → Lies (l ++ (size x.m x.p ∷ [])) (set row n x)
+lies_more l row n x long room k =
     record {
       at =
-          λ i h.
-          let all = length-append l (size m p ∷ []) in
+          λ i d h.
+          let all = length-append l (size x.m x.p ∷ []) in
           lt_or_ge i n
           (λ b.
-          rw (get_or-set_other ms n i m 0 (λ e. omega arith), get_or-set_other ps n i p 0 (λ e. omega arith))
-          (get_or-append l (size m p ∷ []) (size 0 0) i (omega arith) ∙ k.at i (omega arith)))
+          get_or-set_other row n i x d (λ e. omega arith) ∙ k.at i d (omega arith)
+          ∙ ap in_row (sym (get_or-append l (size x.m x.p ∷ []) (size 0 0) i (omega arith))))
           (λ b.
           let here : n ≡ i = omega arith in
-          subst (λ (j : ℕ). get_or (l ++ (size m p ∷ [])) j (size 0 0) ≡ size (get_or (set ms n m) j 0) (get_or (set ps n p) j 0)) here
-          (rw (get_or-set_same ms n m 0 room_m, get_or-set_same ps n p 0 room_p) (get_or_at l (size m p) [] (size 0 0) n long)));
+          subst (λ (j : ℕ). get_or (set row n x) j d ≡ in_row (get_or (l ++ (size x.m x.p ∷ [])) j (size 0 0))) here
+          (get_or-set_same row n x d room ∙ ap in_row (sym (get_or_at l (size x.m x.p) [] (size 0 0) n long))));
     }
 
 -- What the walk keeps, come to the record `next` after `count` others, of which `last` is the last.
-pub record Walking (a ms ps e s : List ℕ) (next last count : ℕ) (before : Read) : Type 0 where
+pub record Walking (a : List ℕ) (row : List Laid) (e s : List ℕ) (next last count : ℕ) (before : Option Laid) : Type 0 where
   pub passed : List ℕ
   pub long : buffer_words ≤ length a
   pub few : count ≤ 512
@@ -93,38 +94,36 @@ pub record Walking (a ms ps e s : List ℕ) (next last count : ℕ) (before : Re
   pub first : due a passed 0 ≡ next
   pub dues : Dues a passed e
   pub sums : Suffixes (passed_sums a 0 passed) s
-  pub down : (l : List Recorded) → lazy_list a ≡ taken l → (rs : List ℕ) × Rest a (512 - count) passed count before.m before.p rs
-  pub up : (rs : List ℕ) → Rest a (512 - count) passed count before.m before.p rs → lazy_list a ≡ taken (held a 0 [] (passed ++ rs))
+  pub down : (l : List Recorded) → lazy_list a ≡ taken l → (rs : List ℕ) × Rest a (512 - count) passed before rs
+  pub up : (rs : List ℕ) → Rest a (512 - count) passed before rs → lazy_list a ≡ taken (held a 0 [] (passed ++ rs))
   pub last_is : last ≡ last_of 0 passed
-  pub ms_long : length ms ≡ most_sizes
-  pub ps_long : length ps ≡ most_sizes
-  pub laid : Rows (items (held a 0 [] passed)) ms ps
+  pub row_long : length row ≡ most_sizes
+  pub lies : Lies (items (held a 0 [] passed)) row
 
 module _ (a : List ℕ) (long : buffer_words ≤ length a) (head : level a 0 ≡ 8) where
   pub head_enterable : Enterable a 0 (replicate 9 0)
   head_enterable = record { has = omega arith; nine = refl; none = refl }
 
-  pub walking_start : (ms ps e₀ e s : List ℕ) (v next : ℕ) (before : Read) → length ms ≡ most_sizes → length ps ≡ most_sizes → length e₀ ≡ 8 → Passed a 0 e₀ e → Suffixes (adjust a 0) s → v ≡ word a 0 3 → next ≡ v → Walking a ms ps e s next 0 0 before
+  pub walking_start : (row : List Laid) (e₀ e s : List ℕ) (next : ℕ) → length row ≡ most_sizes → length e₀ ≡ 8 → Passed a 0 e₀ e → Suffixes (adjust a 0) s → next ≡ word a 0 3 → Walking a row e s next 0 0 None
   unfolding last_with last_of held
-  walking_start ms ps e₀ e s v next before ms_long ps_long eight links entered v_is next_is =
+  walking_start row e₀ e s next row_long eight links entered next_is =
       record {
         passed = [];
         long = long;
         few = omega arith;
         counted = refl;
         due_long = links.long ∙ eight;
-        first = sym (next_is ∙ v_is);
+        first = sym next_is;
         dues = dues_first a e₀ e head links;
         sums = sums_first a s entered;
-        down = lazy_rest a before.m before.p head;
-        up = rest_lazy a before.m before.p head;
+        down = lazy_rest a head;
+        up = rest_lazy a head;
         last_is = refl;
-        ms_long = ms_long;
-        ps_long = ps_long;
-        laid = record { at = λ i h. absurd (omega arith) };
+        row_long = row_long;
+        lies = record { at = λ i d h. absurd (omega arith) };
       }
 
-module _ (a ms ps e s : List ℕ) (next last count : ℕ) (before : Read) (w : Walking a ms ps e s next last count before) where
+module _ (a : List ℕ) (row : List Laid) (e s : List ℕ) (next last count : ℕ) (before : Option Laid) (w : Walking a row e s next last count before) where
   module _ (more : next ≡ 0 → ⊥) where
     -- Where the arena holds a list, the walk may meet one record more,
     room : (l : List Recorded) → lazy_list a ≡ taken l → count < 512
@@ -134,22 +133,22 @@ module _ (a ms ps e s : List ℕ) (next last count : ℕ) (before : Read) (w : W
         (λ h.
         let none : 512 - count ≡ 0 = omega arith in
         absurd
-        (rest_full a (512 - count) w.passed count before.m before.p k.0 (λ n. more (sym w.first ∙ n))
-        (subst (λ (n : ℕ). Rest a n w.passed count before.m before.p k.0) none k.1)))
+        (rest_full a (512 - count) w.passed before k.0 (λ n. more (sym w.first ∙ n))
+        (subst (λ (n : ℕ). Rest a n w.passed before k.0) none k.1)))
 
     left : count < 512 → 512 - count ≡ suc (512 - (count + 1))
     left h = omega arith
 
     -- and the record that is due can come next.
-    met_next : (l : List Recorded) → lazy_list a ≡ taken l → Turn a (512 - (count + 1)) w.passed count before.m before.p next
+    met_next : (l : List Recorded) → lazy_list a ≡ taken l → Turn a (512 - (count + 1)) w.passed before next
     met_next l t =
         let k = w.down l t in
-        turn a (512 - (count + 1)) w.passed count before.m before.p next w.first more k.0
-        (subst (λ (n : ℕ). Rest a n w.passed count before.m before.p k.0) (left (room l t)) k.1)
+        turn a (512 - (count + 1)) w.passed before next w.first more k.0
+        (subst (λ (n : ℕ). Rest a n w.passed before k.0) (left (room l t)) k.1)
 
-    pub walk_barred : (c : Counted) (b : Bool) → Decides b (Stands a count last next) → not b ≡ true → c ≡ uncounted 20 → LaidOut (lazy_list a) ms ps c
-    walk_barred c b d h q =
-        no_list a ms ps c
+    pub walk_barred : (b : Bool) → Decides b (Stands a count last next) → b ≡ false → LaidOut (lazy_list a) row (refused LazyList)
+    walk_barred b d h =
+        no_list a row
         (λ l t.
         let meets = (met_next l t).meets in
         refuted b (Stands a count last next) d h
@@ -160,46 +159,46 @@ module _ (a ms ps e s : List ℕ) (next last count : ℕ) (before : Read) (w : W
           some = meets.some;
           most = meets.most;
         }))
-        q
 
     -- What the calls on the record ask for.
-    pub walk_summable : (b : Bool) → Decides b (Stands a count last next) → not b ≡ false → Summable a next s
+    pub walk_summable : (b : Bool) → Decides b (Stands a count last next) → b ≡ true → Summable a next s
     walk_summable b d h =
         let stands = decided b (Stands a count last next) d h in
         let few = stands.few in
         let long = w.long in
         record { has = omega arith; low = stands.some; high = stands.most; nine = w.sums.nine }
 
-    pub walk_undue : (c : Counted) (b : Bool) → Decides b (Are e (level a next) next) → not b ≡ true → c ≡ uncounted 20 → LaidOut (lazy_list a) ms ps c
+    pub walk_undue : (b : Bool) → Decides b (Are e (level a next) next) → b ≡ false → LaidOut (lazy_list a) row (refused LazyList)
     unfolding Are
-    walk_undue c b d h q =
-        no_list a ms ps c
+    walk_undue b d h =
+        no_list a row
         (λ l t.
         let meets = (met_next l t).meets in
         let most = meets.most in
         refuted b (Are e (level a next) next) d h (λ k low high. w.dues k low (omega arith) ∙ meets.links k high))
-        q
 
-    module _ (x : Read) (has_m : x.m ≡ m_word a next) (has_p : TrueP a next s x.p) where
+    module _ (x : Laid) (has_m : x.m ≡ m_word a next) (has_p : TrueP a next s x.p) where
       true_ps : x.p ≡ true_p a 0 w.passed next
       unfolding true_p p_under
       true_ps = has_p (passed_sums a 0 w.passed) w.sums
 
-      meets_follows : Meets a w.passed count before.m before.p next → Follows count before.m before.p x.m x.p
-      meets_follows z h = let f = z.follows h in let t = true_ps in (omega arith, omega arith)
+      came : x ≡ come a w.passed next
+      came = rw (has_m, true_ps) refl
 
-      pub walk_unordered : (c : Counted) (b : Bool) → Decides b (Follows count before.m before.p x.m x.p) → not b ≡ true → c ≡ uncounted 20 → LaidOut (lazy_list a) ms ps c
-      walk_unordered c b d h q =
-          no_list a ms ps c
-          (λ l t. refuted b (Follows count before.m before.p x.m x.p) d h (meets_follows (met_next l t).meets))
-          q
+      meets_follows : Meets a w.passed before next → Follows before x
+      meets_follows z = subst (Follows before) (sym came) z.follows
+
+      pub walk_unordered : (b : Bool) → Decides b (Follows before x) → b ≡ false → LaidOut (lazy_list a) row (refused LazyList)
+      walk_unordered b d h =
+          no_list a row
+          (λ l t. refuted b (Follows before x) d h (meets_follows (met_next l t).meets))
 
       -- The turn: the record is passed, and what is left is one record less.
-      module _ (stands : Stands a count last next) (follows : Follows count before.m before.p x.m x.p) (named : Are e (level a next) next) where
+      module _ (stands : Stands a count last next) (follows : Follows before x) (named : Are e (level a next) next) where
         abbrev longer : List ℕ
         longer = w.passed ++ (next ∷ [])
 
-        meets : Meets a w.passed count before.m before.p next
+        meets : Meets a w.passed before next
         unfolding Are
         meets =
             let most = stands.most in
@@ -212,19 +211,19 @@ module _ (a ms ps e s : List ℕ) (next last count : ℕ) (before : Read) (w : W
               links =
                   λ k h. lt_or_ge 0 k (λ low. sym (w.dues k low (omega arith)) ∙ named k low h)
                   (λ low. let none : 0 ≡ k = omega arith in subst (λ (i : ℕ). due a w.passed i ≡ next) none w.first);
-              follows = λ h. let f = follows h in (omega arith, omega arith);
+              follows = subst (Follows before) came follows;
             }
 
         same_item : size (m_word a next) (true_p a 0 w.passed next) ≡ size x.m x.p
         same_item = rw (has_m, true_ps)
 
-        down_on : (l : List Recorded) → lazy_list a ≡ taken l → (rs : List ℕ) × Rest a (512 - (count + 1)) longer (count + 1) x.m x.p rs
+        down_on : (l : List Recorded) → lazy_list a ≡ taken l → (rs : List ℕ) × Rest a (512 - (count + 1)) longer (Some x) rs
         down_on l t = let k = met_next l t in (k.rest, rw (has_m, true_ps) k.after)
 
-        up_on : (rs : List ℕ) → Rest a (512 - (count + 1)) longer (count + 1) x.m x.p rs → lazy_list a ≡ taken (held a 0 [] (longer ++ rs))
+        up_on : (rs : List ℕ) → Rest a (512 - (count + 1)) longer (Some x) rs → lazy_list a ≡ taken (held a 0 [] (longer ++ rs))
         up_on rs k =
-            let back = turn_back a (512 - (count + 1)) w.passed count before.m before.p next w.first more rs meets (rw (has_m, true_ps) at k) in
-            w.up (next ∷ rs) (subst (λ (n : ℕ). Rest a n w.passed count before.m before.p (next ∷ rs)) (sym (left stands.room)) back)
+            let back = turn_back a (512 - (count + 1)) w.passed before next w.first more rs meets (rw (has_m, true_ps) at k) in
+            w.up (next ∷ rs) (subst (λ (n : ℕ). Rest a n w.passed before (next ∷ rs)) (sym (left stands.room)) back)
             ∙ ap (λ (l : List ℕ). taken (held a 0 [] l)) (sym (append_assoc w.passed (next ∷ []) rs))
 
         longer_held : items (held a 0 [] longer) ≡ items (held a 0 [] w.passed) ++ (size x.m x.p ∷ [])
@@ -233,17 +232,16 @@ module _ (a ms ps e s : List ℕ) (next last count : ℕ) (before : Read) (w : W
             ∙ map-append (λ (r : Recorded). r.item) (held a 0 [] w.passed) (item_of a w.passed next ∷ [])
             ∙ ap (λ (z : Item). items (held a 0 [] w.passed) ++ (z ∷ [])) same_item
 
-        laid_on : Rows (items (held a 0 [] longer)) (set ms count x.m) (set ps count x.p)
-        laid_on =
+        lies_on : Lies (items (held a 0 [] longer)) (set row count x)
+        lies_on =
             let room = stands.room in
-            let ms_long = w.ms_long in
-            let ps_long = w.ps_long in
+            let long = w.row_long in
             let size_is : length (items (held a 0 [] w.passed)) ≡ count = size_items a w.passed ∙ w.counted in
-            rw longer_held (rows_more (items (held a 0 [] w.passed)) ms ps count x.m x.p size_is (omega arith) (omega arith) w.laid)
+            rw longer_held (lies_more (items (held a 0 [] w.passed)) row count x size_is (omega arith) w.lies)
 
         module _ (e₂ s₂ : List ℕ) (links : Passed a next e e₂) (renewed : Renewed a next s s₂) where
-          pub walk_on : (v onward : ℕ) → v ≡ word a next 3 → onward ≡ v → Walking a (set ms count x.m) (set ps count x.p) e₂ s₂ onward next (count + 1) x
-          walk_on v onward v_is onward_is =
+          pub walk_on : (onward : ℕ) → onward ≡ word a next 3 → Walking a (set row count x) e₂ s₂ onward next (count + 1) (Some x)
+          walk_on onward onward_is =
               let room = stands.room in
               record {
                 passed = longer;
@@ -251,40 +249,37 @@ module _ (a ms ps e s : List ℕ) (next last count : ℕ) (before : Read) (w : W
                 few = omega arith;
                 counted = length-append w.passed (next ∷ []) ∙ ap (λ (n : ℕ). n + 1) w.counted;
                 due_long = links.long ∙ w.due_long;
-                first = due_here a w.passed 0 next stands.some ∙ sym (onward_is ∙ v_is);
+                first = due_here a w.passed 0 next stands.some ∙ sym onward_is;
                 dues = dues_more a next w.passed e e₂ w.dues links;
                 sums = sums_more a next w.passed s₂ (renewed (passed_sums a 0 w.passed) w.sums);
                 down = down_on;
                 up = up_on;
                 last_is = sym (last_of_more 0 w.passed next);
-                ms_long = length-set ms count x.m ∙ w.ms_long;
-                ps_long = length-set ps count x.p ∙ w.ps_long;
-                laid = laid_on;
+                row_long = length-set row count x ∙ w.row_long;
+                lies = lies_on;
               }
 
   module _ (over : next ≡ 0) where
     -- The head's back word is the last record passed,
-    pub walk_unturned : (c : Counted) (v u : ℕ) → v ≡ back a 0 → u ≡ v → (u ≡ last → ⊥) → c ≡ uncounted 20 → LaidOut (lazy_list a) ms ps c
-    walk_unturned c v u v_is u_is h q =
-        no_list a ms ps c
+    pub walk_unturned : (v : ℕ) → v ≡ back a 0 → (v ≡ last → ⊥) → LaidOut (lazy_list a) row (refused LazyList)
+    walk_unturned v v_is h =
+        no_list a row
         (λ l t.
         let k = w.down l t in
-        let behind = rest_back a (512 - count) w.passed count before.m before.p k.0 (w.first ∙ over) k.1 in
-        h (u_is ∙ v_is ∙ behind ∙ sym w.last_is))
-        q
+        let behind = rest_back a (512 - count) w.passed before k.0 (w.first ∙ over) k.1 in
+        h (v_is ∙ behind ∙ sym w.last_is))
 
     -- and no link is due.
-    pub walk_loose : (c : Counted) (b : Bool) → Decides b (Are e 8 0) → not b ≡ true → c ≡ uncounted 20 → LaidOut (lazy_list a) ms ps c
+    pub walk_loose : (b : Bool) → Decides b (Are e 8 0) → b ≡ false → LaidOut (lazy_list a) row (refused LazyList)
     unfolding Are
-    walk_loose c b d h q =
-        no_list a ms ps c
+    walk_loose b d h =
+        no_list a row
         (λ l t.
         let k = w.down l t in
-        let none = rest_over a (512 - count) w.passed count before.m before.p k.0 (w.first ∙ over) k.1 in
+        let none = rest_over a (512 - count) w.passed before k.0 (w.first ∙ over) k.1 in
         refuted b (Are e 8 0) d h (λ i low high. w.dues i low high ∙ none i high))
-        q
 
-    module _ (b : Bool) (ends : Decides b (Are e 8 0)) (all : not b ≡ false) where
+    module _ (b : Bool) (ends : Decides b (Are e 8 0)) (all : b ≡ true) where
       none_left : (k : ℕ) → k < 8 → due a w.passed k ≡ 0
       unfolding Are
       none_left k h =
@@ -293,12 +288,12 @@ module _ (a ms ps e s : List ℕ) (next last count : ℕ) (before : Read) (w : W
 
       holds : back a 0 ≡ last_of 0 w.passed → lazy_list a ≡ taken (held a 0 [] w.passed)
       holds behind =
-          w.up [] (rest_none a (512 - count) w.passed count before.m before.p none_left behind)
+          w.up [] (rest_none a (512 - count) w.passed before none_left behind)
           ∙ ap (λ (l : List ℕ). taken (held a 0 [] l)) (append-nil w.passed)
 
       size_held : length (held a 0 [] w.passed) ≡ count
       size_held = held_length a 0 [] w.passed ∙ w.counted
 
-      pub walk_laid : (v u : ℕ) → v ≡ back a 0 → u ≡ v → u ≡ last → LaidOut (lazy_list a) ms ps (record { number = 0; count = count })
-      walk_laid v u v_is u_is h =
-          list_laid a ms ps count (held a 0 [] w.passed) (holds (sym v_is ∙ sym u_is ∙ h ∙ w.last_is)) size_held w.few w.laid
+      pub walk_laid : (v : ℕ) → v ≡ back a 0 → v ≡ last → LaidOut (lazy_list a) row (taken count)
+      walk_laid v v_is h =
+          list_laid a row (held a 0 [] w.passed) count (holds (sym v_is ∙ h ∙ w.last_is)) size_held w.few w.lies

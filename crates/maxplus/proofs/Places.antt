@@ -1,24 +1,25 @@
--- What a reading call answers, from what the pass found and from the item at a place of the rows.
--- A refusal is the pass's own, and the index that the code makes of a place, from either end, is inside the rows just where check 21 takes the place, and there it is the item's.
-use Rattle.std.proofs.Common.{◌≡◌, ℕ, suc, ◌+◌, ◌-◌, ◌%◌, ◌^◌, ◌<◌, ◌≤◌, Bool, true, false, cond, ◌&&◌, ltb, leb, List, [], ◌∷◌, reverse, length, get_or, sym, refl, ap, ◌∙◌, subst, arith, ltb-true, le-ltb, lt-ltb, le-leb}
+-- What a reading call answers, from what the pass found and from the item at a place of the row.
+-- A refusal is the pass's own, and where check 21 takes a place, the row has its item there: place k from the top at k - 1, and from the low end at the count less k.
+use Rattle.std.proofs.Common.{◌≡◌, ℕ, suc, ◌-◌, ◌<◌, ◌≤◌, Bool, true, false, ◌&&◌, leb, List, [], ◌∷◌, reverse, length, get_or, sym, refl, ap, ◌∙◌, subst, arith, le-leb}
 use mathlib.Core.List.{reverse-cons}
 use lib.ListN.{length-map, length-reverse, get_or-append}
 use lib.Seq.{get_or_at}
 use borrow.Author.Tests.{lt-leb}
 use Rattle.checks.specs.declared.Check.{Check}
 use Rattle.checks.specs.declared.Check.TheVariants.{Buffers, Place}
-use Rattle.checks.specs.Limits.{buffer_words, most_sizes}
-use Rattle.checks.specs.Answer.{Answer, refused, taken, ask, next, number}
-use Rattle.checks.proofs.Answers.{number_taken}
+use Rattle.checks.specs.Limits.{buffer_words}
+use Rattle.checks.specs.Answer.{Answer, refused, taken, ask, next, outcome}
+use Rattle.checks.proofs.Answers.{not_both, same_taken, next_taken}
 use Rattle.slicing.specs.Item.{Item, size}
 use Rattle.slicing.specs.Recorded.{Recorded, items}
 use Rattle.arena.specs.Lazy.{lazy_list}
 use Rattle.arena.proofs.Cases.{lt_or_ge}
-use Rattle.maxplus.specs.declared.Reading.{Reading}
-use Rattle.maxplus.specs.Read.{read_item, read_low, reading}
-use Rattle.maxplus.specs.inside.Place.{refused_reading, read_at}
-use Rattle.holding.specs.declared.items.Counted.{Counted}
-use Rattle.holding.specs.inside.Pass.{arena_list, Rows, LaidOut}
+use Rattle.holding.specs.declared.items.Item.{Item as Laid}
+use Rattle.holding.specs.inside.Pass.{arena_list, in_row, Lies, LaidOut}
+use Rattle.maxplus.specs.declared.read_list.End.{End}
+use Rattle.maxplus.specs.declared.read_list.End.TheVariants.{Top, Low}
+use Rattle.maxplus.specs.Read.{read_item, read_low}
+use Rattle.maxplus.specs.inside.Place.{answered, read_from}
 
 -- The items of a list from the last to the first.
 pub reversed_at : (l : List Item) (i : ℕ) (d : Item) → i < length l → get_or (reverse l) i d ≡ get_or l (length l - suc i) d
@@ -66,87 +67,69 @@ arena_low : (a : List ℕ) (place : ℕ) → read_low a place ≡ next (arena_li
 unfolding read_low arena_list
 arena_low a place = ask_next (leb buffer_words (length a)) Buffers (lazy_list a) (from_low place)
 
+-- From either end.
+abbrev from_end : End → ℕ → List Recorded → Answer Item
+from_end Top = from_top
+from_end Low = from_low
+
+arena_end : (end : End) (a : List ℕ) (place : ℕ) → read_from end a place ≡ next (arena_list a) (from_end end place)
+arena_end Top = arena_top
+arena_end Low = arena_low
+
 -- The pass's own refusal.
-refused_so : (r : Answer (List Recorded)) (f : List Recorded → Answer Item) (n : ℕ) → n ≡ number r → (n ≡ 0 → ⊥) → refused_reading n ≡ reading (next r f)
-refused_so (refused k) f n e h = rw e
-refused_so (taken l) f n e h = absurd (h e)
+refused_so : (r : Answer (List Recorded)) (k : Check) → ◌≡◌ {A = Answer ℕ} (refused k) (next r (λ l. taken (length l))) → r ≡ refused k
+refused_so (refused j) k e = let same : j ≡ k = cc in ap refused same
+refused_so (taken l) k e = absurd (not_both k (length l) e)
 
--- Check 21 by the code's index, and the item there.
-at_place : (b : Bool) (x : Item) (count at m p : ℕ) → b ≡ ltb at count → (at < count → x ≡ size m p) → read_at count at m p ≡ reading (ask b Place (taken x))
-unfolding read_at
-at_place b x count at m p e same = go (ltb at count) refl ∙ ap (λ (t : Bool). reading (ask t Place (taken x))) (sym e)
-  where
-    go : (t : Bool) → ltb at count ≡ t → cond t (record { number = 0; m = m; p = p }) (refused_reading 21) ≡ reading (ask t Place (taken x))
-    go true h = rw (same (ltb-true at count h))
-    go false h = refl
+-- Check 21, as the code asks it.
+not_in_list : (place n : ℕ) → (1 ≤ place → place ≤ n → ⊥) → is_in_list place n ≡ false
+not_in_list place n out =
+    lt_or_ge place 1 (not_low place n)
+    (λ low. lt_or_ge n place (not_high place n low) (λ high. absurd (out low high)))
 
-by_index : (place count at : ℕ) → (at < count → (1 ≤ place) × (place ≤ count)) → (count ≤ at → 1 ≤ place → count < place) → is_in_list place count ≡ ltb at count
-by_index place count at inside outside =
-    lt_or_ge at count (λ h. in_list place count (inside h).0 (inside h).1 ∙ sym (lt-ltb at count h))
-    (λ h.
-    lt_or_ge place 1 (λ low. not_low place count low ∙ sym (le-ltb at count h))
-    (λ low. not_high place count low (outside h low) ∙ sym (le-ltb at count h)))
+-- The answers, from the row that the pass left and from what it answered.
+module _ (a : List ℕ) (row : List Laid) (c : Answer ℕ) (laid : LaidOut (arena_list a) row c) (place : ℕ) where
+  pub refused_end : (end : End) (k : Check) (r : Answer Laid) → c ≡ refused k → r ≡ refused k → answered r ≡ read_from end a place
+  refused_end end k r c_is r_is =
+      ap answered r_is
+      ∙ ap (λ (x : Answer (List Recorded)). next x (from_end end place)) (sym (refused_so (arena_list a) k (sym c_is ∙ laid.answer)))
+      ∙ sym (arena_end end a place)
 
-module _ (l : List Recorded) (ms ps : List ℕ) (rows : Rows (items l) ms ps) (place at : ℕ) (few : length l ≤ most_sizes) (at_fits : at < 2 ^ 32) where
-  row_at : at < length l → get_or (items l) at (size 0 0) ≡ size (get_or ms at 0) (get_or ps at 0)
-  row_at h = let long = length-map l (λ (r : Recorded). r.item) in rows.at at (omega arith)
+  module _ (n : ℕ) (c_is : c ≡ taken n) where
+    -- The list is there, and its length is what was answered.
+    found : (l : List Recorded) × (arena_list a ≡ taken l) × (◌≡◌ {A = Answer ℕ} (taken (length l)) (taken n))
+    found = next_taken (arena_list a) (λ (l : List Recorded). taken (length l)) n (sym laid.answer ∙ c_is)
 
-  top_at : (at + 1) % 2 ^ 32 ≡ place → read_at (length l) at (get_or ms at 0) (get_or ps at 0) ≡ reading (from_top place l)
-  top_at e =
-      at_place (is_in_list place (length l)) (get_or (items l) (place - 1) (size 0 0)) (length l) at _ _
-      (by_index place (length l) at (λ h. (omega arith, omega arith)) (λ h low. omega arith))
-      (λ h. let here : place - 1 ≡ at = omega arith in ap (λ (i : ℕ). get_or (items l) i (size 0 0)) here ∙ row_at h)
+    size_is : length found.0 ≡ n
+    size_is = same_taken _ _ found.2
 
-  low_at : place < 2 ^ 32 → (at + place) % 2 ^ 32 ≡ length l → read_at (length l) at (get_or ms at 0) (get_or ps at 0) ≡ reading (from_low place l)
-  low_at fits e =
-      at_place (is_in_list place (length l)) (get_or (reverse (items l)) (place - 1) (size 0 0)) (length l) at _ _
-      (by_index place (length l) at (λ h. (omega arith, omega arith)) (λ h low. omega arith))
-      (λ h.
-      let long = length-map l (λ (r : Recorded). r.item) in
-      let here : length (items l) - suc (place - 1) ≡ at = omega arith in
-      reversed_at (items l) (place - 1) (size 0 0) (omega arith) ∙ ap (λ (i : ℕ). get_or (items l) i (size 0 0)) here ∙ row_at h)
+    lies : Lies (items found.0) row
+    lies = subst (λ (r : Answer (List Recorded)). Lies (outcome r [] items) row) found.1 laid.lies
 
--- The answers.
-module _ (a ms ps : List ℕ) (place : ℕ) (c : Counted) (laid : LaidOut (arena_list a) ms ps c) (z : Reading) where
-  pub refused_top : (c.number ≡ 0 → ⊥) → z ≡ refused_reading c.number → z ≡ reading (read_item a place)
-  refused_top h e =
-      e ∙ refused_so (arena_list a) (from_top place) c.number laid.number_is h ∙ ap reading (sym (arena_top a place))
+    read_is : (end : End) → from_end end place found.0 ≡ read_from end a place
+    read_is end = ap (λ (x : Answer (List Recorded)). next x (from_end end place)) (sym found.1) ∙ sym (arena_end end a place)
 
-  pub refused_low : (c.number ≡ 0 → ⊥) → z ≡ refused_reading c.number → z ≡ reading (read_low a place)
-  refused_low h e =
-      e ∙ refused_so (arena_list a) (from_low place) c.number laid.number_is h ∙ ap reading (sym (arena_low a place))
+    pub place_out : (end : End) → (1 ≤ place → place ≤ n → ⊥) → ◌≡◌ {A = Answer Item} (refused Place) (read_from end a place)
+    place_out Top out = let long = size_is in rw (not_in_list place (length found.0) (λ p q. out p (omega arith))) at (read_is Top)
+    place_out Low out = let long = size_is in rw (not_in_list place (length found.0) (λ p q. out p (omega arith))) at (read_is Low)
 
-  module _ (at : ℕ) (number_is : c.number ≡ 0) (at_fits : at < 2 ^ 32) (e : z ≡ read_at c.count at (get_or ms at 0) (get_or ps at 0)) where
-    -- The list is there, and its length is the count.
-    found : (l : List Recorded) × (arena_list a ≡ taken l)
-    found = number_taken (arena_list a) (sym laid.number_is ∙ number_is)
+    module _ (end : End) (low : 1 ≤ place) (high : place ≤ n) (d : Laid) where
+      inside : is_in_list place (length found.0) ≡ true
+      inside = let long = size_is in in_list place (length found.0) low (omega arith)
 
-    held_so : LaidOut (taken found.0) ms ps c
-    held_so = subst (λ (r : Answer (List Recorded)). LaidOut r ms ps c) found.1 laid
+      pub place_top : end ≡ Top → answered (taken (get_or row (place - 1) d)) ≡ read_from end a place
+      place_top top =
+          let long = size_is in
+          let many = length-map found.0 (λ (r : Recorded). r.item) in
+          ap (λ (x : Laid). answered (taken x)) (lies.at (place - 1) d (omega arith)) ∙ (rw inside at (read_is Top))
+          ∙ ap (λ (e : End). read_from e a place) (sym top)
 
-    counted : z ≡ read_at (length found.0) at (get_or ms at 0) (get_or ps at 0)
-    counted = e ∙ ap (λ (n : ℕ). read_at n at (get_or ms at 0) (get_or ps at 0)) held_so.count_is
-
-    few : length found.0 ≤ most_sizes
-    few = let t = held_so.few in let same = held_so.count_is in omega arith
-
-    pub taken_top : (at + 1) % 2 ^ 32 ≡ place → z ≡ reading (read_item a place)
-    taken_top wraps =
-        counted ∙ top_at found.0 ms ps held_so.rows place at few at_fits wraps
-        ∙ ap (λ (r : Answer (List Recorded)). reading (next r (from_top place))) (sym found.1)
-        ∙ ap reading (sym (arena_top a place))
-
-    pub taken_low : place < 2 ^ 32 → (at + place) % 2 ^ 32 ≡ c.count → z ≡ reading (read_low a place)
-    taken_low fits wraps =
-        counted ∙ low_at found.0 ms ps held_so.rows place at few at_fits fits (wraps ∙ held_so.count_is)
-        ∙ ap (λ (r : Answer (List Recorded)). reading (next r (from_low place))) (sym found.1)
-        ∙ ap reading (sym (arena_low a place))
-
--- Check 21, as the code asks it of an index.
-pub place_out : (count at m p : ℕ) (z : Reading) → count ≤ at → z ≡ refused_reading 21 → z ≡ read_at count at m p
-unfolding read_at
-place_out count at m p z h e = e ∙ rw (le-ltb at count h)
-
-pub place_in : (count at m p : ℕ) → at < count → record { number = 0; m = m; p = p } ≡ read_at count at m p
-unfolding read_at
-place_in count at m p h = rw (lt-ltb at count h)
+      pub place_low : end ≡ Low → answered (taken (get_or row (n - place) d)) ≡ read_from end a place
+      place_low low_end =
+          let long = size_is in
+          let many = length-map found.0 (λ (r : Recorded). r.item) in
+          let here : n - place ≡ length (items found.0) - suc (place - 1) = omega arith in
+          ap (λ (x : Laid). answered (taken x))
+          (lies.at (n - place) d (omega arith) ∙ ap (λ (i : ℕ). in_row (get_or (items found.0) i (size 0 0))) here)
+          ∙ ap taken (sym (reversed_at (items found.0) (place - 1) (size 0 0) (omega arith))) ∙ (rw inside at (read_is Low))
+          ∙ ap (λ (e : End). read_from e a place) (sym low_end)

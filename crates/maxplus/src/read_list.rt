@@ -1,30 +1,34 @@
 // The reading calls: the items of the list that an arena holds, and then the one at a place from either end.
-ghost use Rattle.std.specs.Prelude.{◌≡◌, ◌≤◌, length, slice_index};
+ghost use Rattle.std.specs.Prelude.{◌≡◌};
 ghost use Rattle.maxplus.specs.Read.{read_item, read_low, reading};
-ghost use Rattle.maxplus.specs.inside.Place.{refused_reading, read_at};
+ghost use Rattle.maxplus.specs.inside.Place.{answered, read_from};
 
 use crate::Reading;
+use checks::Check;
 use checks::limits::SIZES;
-use holding::items::items_of;
+use holding::items::{Item, items_of};
 
-fn refused(number: u32) -> Reading
-    ensures { result ≡ refused_reading number }
-{
-    Reading { number, m: 0, p: 0 }
+// The end of a list from which its places are counted.
+#[derive(Clone, Copy)]
+enum End {
+    Top,
+    Low,
 }
 
-// The item at a place of the rows, counted from 0, where it is one of the first `count`: check 21.
-fn item_or_place(ms: &[u32], ps: &[u32], count: u32, at: u32) -> Reading
-    requires { (count ≤ length ms.now) × (count ≤ length ps.now) }
-    ensures { result ≡ read_at count at (slice_index ms.now at) (slice_index ps.now at) }
+// The item at a place of the list that the arena holds, counted from 1 at an end of it: checks 17, 20 and 21 on any arena
+// and any place.
+fn item_at(arena: &[u32], end: End, place: u32) -> Result<Item, Check>
+    ensures { answered result ≡ read_from end arena.now place }
 {
-    if count <= at {
-        return refused(checks::PLACE);
+    let mut items = [Item::default(); SIZES];
+    let count = items_of(arena, &mut items)?;
+    let place = place as usize;
+    if !(1..=count).contains(&place) {
+        return Err(Check::Place);
     }
-    Reading {
-        number: checks::TAKEN,
-        m: ms[at as usize],
-        p: ps[at as usize],
+    match end {
+        End::Top => Ok(items[place - 1]),
+        End::Low => Ok(items[count - place]),
     }
 }
 
@@ -33,29 +37,12 @@ fn item_or_place(ms: &[u32], ps: &[u32], count: u32, at: u32) -> Reading
 pub fn read(arena: &[u32], place: u32) -> Reading
     ensures { result ≡ reading (read_item arena.now place) }
 {
-    let mut ms = [0u32; SIZES];
-    let mut ps = [0u32; SIZES];
-    let list = items_of(arena, &mut ms, &mut ps);
-    if list.number != checks::TAKEN {
-        return refused(list.number);
-    }
-    item_or_place(&ms, &ps, list.count, std::num::wrapping_sub_u32(place, 1))
+    Reading::from(item_at(arena, End::Top, place))
 }
 
 // The same from the low end, where m is least: place 1 is the end of the walk.
 pub fn read_low(arena: &[u32], place: u32) -> Reading
     ensures { result ≡ reading (read_low arena.now place) }
 {
-    let mut ms = [0u32; SIZES];
-    let mut ps = [0u32; SIZES];
-    let list = items_of(arena, &mut ms, &mut ps);
-    if list.number != checks::TAKEN {
-        return refused(list.number);
-    }
-    item_or_place(
-        &ms,
-        &ps,
-        list.count,
-        std::num::wrapping_sub_u32(list.count, place),
-    )
+    Reading::from(item_at(arena, End::Low, place))
 }

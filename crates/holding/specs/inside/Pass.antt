@@ -1,28 +1,31 @@
 -- What the parts of the pass over a list answer.
-use Rattle.std.specs.Prelude.{◌≡◌, List, [], ℕ, ◌≤◌, ◌<◌, leb, length, get_or}
+use Rattle.std.specs.Prelude.{◌≡◌, List, [], ℕ, ◌≤◌, ◌<◌, leb, length, get_or, Option, Some, None}
 use Rattle.checks.specs.declared.Check.TheVariants.{Buffers}
 use Rattle.checks.specs.Limits.{most_sizes, buffer_words}
-use Rattle.checks.specs.Answer.{Answer, ask, number, outcome}
+use Rattle.checks.specs.Answer.{Answer, taken, ask, next, outcome}
 use Rattle.slicing.specs.Item.{Item, size}
 use Rattle.slicing.specs.Recorded.{Recorded, items}
 use Rattle.arena.specs.Arena.{level, back}
 use Rattle.arena.specs.Lazy.{lazy_list}
-use Rattle.holding.specs.declared.items.Counted.{Counted}
+use Rattle.holding.specs.declared.items.Item.{Item as Laid}
 
 -- The list that an arena holds, where it is long enough: checks 17 and 20.
 unfoldable pub arena_list : List ℕ → Answer (List Recorded)
 arena_list a = ask (leb buffer_words (length a)) Buffers (lazy_list a)
 
--- The rows have m and p of each of the items.
-pub record Rows (l : List Item) (ms ps : List ℕ) : Type 0 where
-  pub at : (i : ℕ) → i < length l → get_or l i (size 0 0) ≡ size (get_or ms i 0) (get_or ps i 0)
+-- An item as the row has it.
+abbrev pub in_row : Item → Laid
+in_row z = record { m = z.m; p = z.p }
 
--- What a pass finds of the list r that an arena holds, or of the refusal: its number, how many items it has, and the items in the rows, which are as long as a list can be.
-pub record LaidOut (r : Answer (List Recorded)) (ms ps : List ℕ) (c : Counted) : Type 0 where
-  pub number_is : c.number ≡ number r
-  pub count_is : c.count ≡ outcome r 0 length
-  pub few : c.count ≤ most_sizes
-  pub rows : Rows (outcome r [] items) ms ps
+-- The items stand in the row, from its start.
+pub record Lies (l : List Item) (row : List Laid) : Type 0 where
+  pub at : (i : ℕ) (d : Laid) → i < length l → get_or row i d ≡ in_row (get_or l i (size 0 0))
+
+-- What a pass finds of the list r that an arena holds: the same refusal, or how many items it has, which are at most as many as a list can have and stand in the row from its start.
+pub record LaidOut (r : Answer (List Recorded)) (row : List Laid) (c : Answer ℕ) : Type 0 where
+  pub answer : c ≡ next r (λ l. taken (length l))
+  pub few : outcome c 0 (λ n. n) ≤ most_sizes
+  pub lies : Lies (outcome r [] items) row
 
 -- Record r may stand on a list after `count` others, of which `last` is the last: a list has at most 512 records, numbered 1 to 512, of levels 1 to 8, each with the record before it as its back word.
 pub record Stands (a : List ℕ) (count last r : ℕ) : Type 0 where
@@ -32,6 +35,7 @@ pub record Stands (a : List ℕ) (count last r : ℕ) : Type 0 where
   pub some : 1 ≤ level a r
   pub most : level a r ≤ 8
 
--- An item (n, q) may follow an item (m, p), where there is one: where count is not 0.
-abbrev pub Follows : ℕ → ℕ → ℕ → ℕ → ℕ → Type 0
-Follows count m p n q = (count ≡ 0 → ⊥) → (n < m) × (p < q)
+-- An item may follow the one before it, where there is one: m falls and p rises.
+abbrev pub Follows : Option Laid → Laid → Type 0
+Follows None x = Unit {0}
+Follows (Some y) x = (x.m < y.m) × (y.p < x.p)

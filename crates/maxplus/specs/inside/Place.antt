@@ -1,11 +1,17 @@
--- What is answered of a place, of which check 21 asks. The contracts inside the reading calls cite these, and no public one does.
-use Rattle.std.specs.Prelude.{ℕ, cond, nat_lt}
-use Rattle.maxplus.specs.declared.Reading.{Reading}
+-- What is answered of a place, of which check 21 asks, from either end. The contracts inside the reading calls cite these, and no public one does.
+use Rattle.std.specs.Prelude.{ℕ, List}
+use Rattle.checks.specs.Answer.{Answer, taken, next}
+use Rattle.slicing.specs.Item.{Item, size}
+use Rattle.holding.specs.declared.items.Item.{Item as Laid}
+use Rattle.maxplus.specs.declared.read_list.End.{End}
+use Rattle.maxplus.specs.declared.read_list.End.TheVariants.{Top, Low}
+use Rattle.maxplus.specs.Read.{read_item, read_low}
 
--- A call that is refused.
-abbrev pub refused_reading : ℕ → Reading
-refused_reading n = record { number = n; m = 0; p = 0 }
+-- An answer with an item that stood in a row.
+abbrev pub answered : Answer Laid → Answer Item
+answered r = next r (λ z. taken (size z.m z.p))
 
--- What is answered on a list of `count` items, of which the item at the place, counted from 0, is (m, p).
-unfoldable pub read_at : ℕ → ℕ → ℕ → ℕ → Reading
-read_at count at m p = cond (nat_lt at count) (record { number = 0; m = m; p = p }) (refused_reading 21)
+-- The item at a place from an end.
+abbrev pub read_from : End → List ℕ → ℕ → Answer Item
+read_from Top a place = read_item a place
+read_from Low a place = read_low a place

@@ -1,7 +1,6 @@
 -- `holding::items::lay_out` meets its contract.
 -- The loop keeps `Walking`; the measure is the records that the walk may still meet.
 use borrow.Author.Rules.{rules}
-use borrow.Author.Tests.{not-false}
 use native.Mathlib.Omega.{arith}
 use Rattle.holding.specs.inside.Pass.{Stands, Follows}
 use Rattle.forwards.proofs.Decisions.{decided}
@@ -29,43 +28,35 @@ pass_links-requires c = (search (rules, walk_summable), search rules)
 pub returns-then-not-pass_links : goal.returns-then-not-pass_links
 returns-then-not-pass_links c = search (rules, walk_undue)
 
-pub bounds-ms-count : goal.bounds-ms-count
-bounds-ms-count c =
-    let stood : Stands c.args.arena.now c.loop-next.count c.loop-next.last c.loop-next.next = decided c.may_stand.result _ c.may_stand.ensures c.if-not-may_stand.false-raw in
+pub bounds-items-count : goal.bounds-items-count
+bounds-items-count c =
+    let stood : Stands c.args.arena.now c.loop-next.count c.loop-next.last c.loop-next.next = decided c.may_stand.result _ c.may_stand.ensures c.if-not-may_stand.false in
     let room = (stood).room in
-    let long = c.loop-next.invariant.ms_long in
+    let long = c.loop-next.invariant.row_long in
     omega arith
 
-pub bounds-ps-count : goal.bounds-ps-count
-bounds-ps-count c =
-    let stood : Stands c.args.arena.now c.loop-next.count c.loop-next.last c.loop-next.next = decided c.may_stand.result _ c.may_stand.ensures c.if-not-may_stand.false-raw in
-    let room = (stood).room in
-    let long = c.loop-next.invariant.ps_long in
-    omega arith
-
-pub get-requires-in-loop-next : goal.get-requires-in-loop-next
-get-requires-in-loop-next c =
-    let stood : Stands c.args.arena.now c.loop-next.count c.loop-next.last c.loop-next.next = decided c.may_stand.result _ c.may_stand.ensures c.if-not-may_stand.false-raw in
+pub get-next-requires-in-loop-next : goal.get-next-requires-in-loop-next
+get-next-requires-in-loop-next c =
+    let stood : Stands c.args.arena.now c.loop-next.count c.loop-next.last c.loop-next.next = decided c.may_stand.result _ c.may_stand.ensures c.if-not-may_stand.false in
     let few = (stood).few in
     let long = c.loop-next.invariant.long in
     (omega arith, search rules)
 
 pub loop-next-smaller : goal.loop-next-smaller
 loop-next-smaller c =
-    let stood : Stands c.args.arena.now c.loop-next.count c.loop-next.last c.loop-next.next = decided c.may_stand.result _ c.may_stand.ensures c.if-not-may_stand.false-raw in
+    let stood : Stands c.args.arena.now c.loop-next.count c.loop-next.last c.loop-next.next = decided c.may_stand.result _ c.may_stand.ensures c.if-not-may_stand.false in
     let room = (stood).room in omega arith
 
 pub loop-next-preserved : goal.loop-next-preserved
 loop-next-preserved c =
-    let stood : Stands c.args.arena.now c.loop-next.count c.loop-next.last c.loop-next.next = decided c.may_stand.result _ c.may_stand.ensures c.if-not-may_stand.false-raw in
-    let follows = decided c.may_follow.result (Follows _ _ _ _ _) c.may_follow.ensures c.if-not-may_follow.false-raw in
-    let named = decided c.pass_links.result _ c.pass_links.ensures.decides c.if-not-pass_links.false-raw in
-    let yes = not-false c.pass_links.result c.if-not-pass_links.false-raw in
-    walk_on _ _ _ _ _ _ _ _ _ c.loop-next.invariant c.loop-next-test.true _ c.item_at-item.ensures.m_value c.item_at-item.ensures.true_p
-    (stood) follows named _ _ (c.pass_links.ensures.passed yes) (c.pass_links.ensures.renewed yes) _ _ c.get-in-loop-next.ensures c.wide-next-in-loop-next.ensures
+    let stood : Stands c.args.arena.now c.loop-next.count c.loop-next.last c.loop-next.next = decided c.may_stand.result _ c.may_stand.ensures c.if-not-may_stand.false in
+    let follows = decided c.may_follow.result (Follows _ _) c.may_follow.ensures c.if-not-may_follow.false in
+    let named = decided c.pass_links.result _ c.pass_links.ensures.decides c.if-not-pass_links.false in
+    walk_on _ _ _ _ _ _ _ _ c.loop-next.invariant c.loop-next-test.true _ c.item_at-item.ensures.m_value c.item_at-item.ensures.true_p
+    (stood) follows named _ _ (c.pass_links.ensures.passed c.if-not-pass_links.false) (c.pass_links.ensures.renewed c.if-not-pass_links.false) _ c.get-next-in-loop-next.ensures
 
-pub returns-then-wide-last : goal.returns-then-wide-last
-returns-then-wide-last c = search (rules, walk_unturned)
+pub returns-then-get-last : goal.returns-then-get-last
+returns-then-get-last c = search (rules, walk_unturned)
 
 pub returns-then-not-none_due : goal.returns-then-not-none_due
 returns-then-not-none_due c = search (rules, walk_loose)

@@ -5,7 +5,7 @@ use Rattle.holding.proofs.ReadingWalk.{Walking}
 use Rattle.holding.proofs.items.lay_out.Given as goal
 
 abbrev pub invariant-loop-next : goal.invariant-loop-next
-invariant-loop-next l = Walking l.arena l.ms l.ps l.due l.sums l.next l.last l.count l.before
+invariant-loop-next l = Walking l.arena l.items l.due l.sums l.next l.last l.count l.before
 
 abbrev pub decreases-loop-next : goal.decreases-loop-next
 decreases-loop-next l = 512 - l.count
