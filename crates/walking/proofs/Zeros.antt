@@ -1,34 +1,22 @@
--- The loop that writes zeros: those still to be written, over what is there, give what all of them give over what was there.
--- Each turn writes the first that is left.
-use mathlib.Core.Path.{◌≡◌, refl, sym, ap, ◌∙◌}
-use mathlib.Core.List.{List}
-use Prim.Native.Nat.{ℕ, suc, ◌+◌, ◌-◌, ◌≤◌, ◌<◌}
+-- Zeros that fill a part of a buffer are stores of as many zeros in turn, from where the part begins.
+-- Both leave what is before the part and what is after it.
+use mathlib.Core.Path.{◌≡◌, sym, ap, ◌∙◌}
+use mathlib.Core.List.{List, ◌++◌, append_assoc}
+use Prim.Native.Nat.{ℕ, ◌+◌, ◌≤◌}
 use native.Mathlib.Omega.{arith}
-use native.Mathlib.Numerals.{add-one}
-use lib.ListN.{length, set, replicate, length-set}
-use lib.Seq.{sets}
+use lib.ListN.{length, replicate, take, drop, length-replicate, length-take, length-drop}
+use lib.Seq.{sets, sets-eq, drop-drop}
+use borrow.Rule.Slice.PartMut.{mid_of, put_mid}
 
-module _ (old : List ℕ) (from to : ℕ) where
-  pub record Zeroing (out : List ℕ) (i : ℕ) : Type 0 where
-    pub inside : i ≤ to
-    pub long : length out ≡ length old
-    pub same : sets out i (replicate (to - i) 0) ≡ sets old from (replicate (to - from) 0)
+module _ (out : List ℕ) (i k : ℕ) where
+  abbrev zeros : List ℕ
+  zeros = replicate k 0
 
-  pub zeroing_start : from ≤ to → Zeroing old from
-  zeroing_start inside = record { inside = inside; long = refl; same = refl }
-
-  pub zeroing_more : (out : List ℕ) (i : ℕ) → Zeroing out i → i < to → Zeroing (set out i 0) (i + 1)
-  zeroing_more out i z less =
-      let one_more : to - i ≡ suc (to - (i + 1)) = omega arith in
-      record {
-        inside = omega arith;
-        long = length-set out i 0 ∙ z.long;
-        same =
-            ap (λ (j : ℕ). sets (set out i 0) j (replicate (to - (i + 1)) 0)) (add-one i)
-            ∙ ap (λ (n : ℕ). sets out i (replicate n 0)) (sym one_more) ∙ z.same;
-      }
-
-  pub zeroing_done : (out : List ℕ) (i : ℕ) → Zeroing out i → to ≤ i → out ≡ sets old from (replicate (to - from) 0)
-  zeroing_done out i z over =
-      let none : 0 ≡ to - i = omega arith in
-      ap (λ (n : ℕ). sets out i (replicate n 0)) none ∙ z.same
+  pub zeros_fill : (part : List ℕ) → i + k ≤ length out → part ≡ replicate (length (mid_of i k out)) 0 → put_mid i k out part ≡ sets out i zeros
+  zeros_fill part inside filled =
+      let many : length (mid_of i k out) ≡ k = simp (length-take, length-drop) (omega arith) in
+      let as_many : length zeros ≡ k = length-replicate k 0 in
+      let behind : i + k ≡ i + length zeros = omega arith in
+      ap (λ (p : List ℕ). take i out ++ (p ++ drop k (drop i out))) (filled ∙ ap (λ (n : ℕ). replicate n 0) many)
+      ∙ ap (λ (rest : List ℕ). take i out ++ (zeros ++ rest)) (drop-drop k i out ∙ ap (λ (n : ℕ). drop n out) behind)
+      ∙ sym (append_assoc (take i out) zeros (drop (i + length zeros) out)) ∙ sym (sets-eq zeros out i (omega arith))

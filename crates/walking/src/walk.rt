@@ -1,6 +1,5 @@
 // The walk of a catalogue: once over a list of outer sizes, tallest first, for heights that fall.
-ghost use Rattle.std.specs.Prelude.{◌≡◌, ℕ, ◌+◌, ◌*◌, ◌-◌, ◌≤◌, ◌<◌, length, get_or, replicate};
-ghost use Rattle.std.proofs.lemmas.List.Edits.{sets};
+ghost use Rattle.std.specs.Prelude.{ℕ, ◌+◌, ◌*◌, ◌≤◌, ◌<◌, length, get_or};
 ghost use Rattle.walking.specs.inside.Walking.{most_looks, Closed, ClosedOver, Passed, Walkable, WalkedOver};
 
 // The item that is reached, and the looks of the walk so far.
@@ -19,6 +18,7 @@ fn close(list: &mut [u32], items: usize)
 }
 
 // Passes the items from a place on that are taller than a height, with a look at each, and counts on from the looks before.
+// The height 0 after the last item ends it, so that no turn asks for the list's end, as a `for` would.
 fn pass_taller(list: &[u32], from: usize, height: u32, before: usize) -> Stop
     requires { ((items : ℕ) × (from ≤ items) × Closed list.now items) × (before ≤ most_looks) }
     ensures { Passed list.now from height before result.item result.looks × (get_or list.now (2 * result.item) 0 ≤ height) }
@@ -32,18 +32,6 @@ fn pass_taller(list: &[u32], from: usize, height: u32, before: usize) -> Stop
     Stop { item, looks }
 }
 
-// Writes 0 from one place to another.
-fn write_zeros(output: &mut [u32], from: usize, to: usize)
-    requires { (from ≤ to) × (to ≤ length output.old) }
-    ensures { output.new ≡ sets output.old from (replicate (to - from) 0) }
-{
-    let mut i = from;
-    while i < to {
-        output[i] = 0;
-        i += 1;
-    }
-}
-
 // Writes the width for each height from the output's start, and answers how many looks it took. A height begins at the item
 // where the last one stopped. Once the list has run out, later heights take no look, and their width is 0.
 pub fn walk(list: &mut [u32], items: usize, heights: &[u32], output: &mut [u32]) -> usize
@@ -53,17 +41,15 @@ pub fn walk(list: &mut [u32], items: usize, heights: &[u32], output: &mut [u32])
     close(list, items);
     let mut item = 0;
     let mut looks = 0;
-    let mut i = 0;
-    while i < heights.len() {
-        let stop = pass_taller(list, item, heights[i], looks);
+    for (i, height) in heights.iter().enumerate() {
+        let stop = pass_taller(list, item, *height, looks);
         item = stop.item;
         if item == items {
-            write_zeros(output, i, heights.len());
+            output[i..heights.len()].fill(0);
             return stop.looks;
         }
         looks = stop.looks + 1;
         output[i] = list[2 * item + 1];
-        i += 1;
     }
     looks
 }

@@ -1,12 +1,7 @@
 -- `walking::walk::walk` meets its contract.
--- The loop keeps `Walking`, that the heights left, walked from the present item on, give with what is so far the whole walk; the measure is the number of the heights left.
-use Prim.Native.Nat.{◌-◌}
-use lib.ListN.{length}
+-- The loop keeps `Walking`, that the heights left, walked from the present item on, give with what is so far the whole walk.
 use Rattle.walking.proofs.Walking.{Walking}
 use Rattle.walking.proofs.walk.walk.Given as goal
 
 abbrev pub invariant-loop-i : goal.invariant-loop-i
 invariant-loop-i l = Walking l.list l.items l.heights l.initial.output l.output l.item l.looks l.i
-
-abbrev pub decreases-loop-i : goal.decreases-loop-i
-decreases-loop-i l = length l.heights - l.i
