@@ -97,13 +97,12 @@ module _ (a : List ℕ) (h key n : ℕ) (g : Counting a h key n) where
           lower = none_in_front a n key rs s.linked.chain s.falling (tested false e rs s);
         }
 
-  pub counting_all : 8 ≤ n → (rs : List ℕ) → Searchable a h rs → LinkCount a key rs n
+  pub counting_all : 8 ≤ n → (rs : List ℕ) → Searchable a h rs → LinkCount a key rs 8
   counting_all all rs s =
+      let high = g.high in
       record {
-        some = g.low;
-        few = g.high;
-        with_link = g.with_link rs s;
-        lower =
-            front_keeps (λ x. level a x ≤ n) a key rs
-            (all_map rs (λ x (high : level a x ≤ 8). omega arith) (chain_high a rs s.linked.chain));
+        some = omega arith;
+        few = omega arith;
+        with_link = λ k less. g.with_link rs s k (omega arith);
+        lower = front_keeps (λ x. level a x ≤ 8) a key rs (chain_high a rs s.linked.chain);
       }

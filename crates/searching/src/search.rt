@@ -1,9 +1,20 @@
 // The search for the records in front of a list that are not below a key.
-ghost use Rattle.std.specs.Prelude.{◌≡◌, ℕ, ◌≤◌, true, List, length};
+ghost use Rattle.std.specs.Prelude.{◌≡◌, ℕ, suc, ◌<◌, ◌≤◌, true, List};
 ghost use Rattle.arena.specs.Arena.{forward};
-ghost use Rattle.searching.specs.inside.Cut.{Searchable, LinkCount, CutAt, Reachable, passes};
+ghost use Rattle.arena.specs.Lazy.{last_with};
+ghost use Rattle.arena.specs.inside.Chain.{Has};
+ghost use Rattle.searching.specs.inside.Cut.{front, Searchable, LinkCount, CutAt, Along, Reachable, passes};
 
-use arena::words::{ADJUST, FORWARD, M, get, wide};
+use arena::words::{ADJUST, FORWARD, M, get};
+
+// Where a list is cut: how many links the records in front have, and for each of them the last record with it in front,
+// the head where there is none, and the adjust that this one has of it.
+#[derive(Clone, Copy)]
+pub struct Cut {
+    pub links: usize,
+    pub lasts: [usize; 8],
+    pub adjusts: [u32; 8],
+}
 
 // Whether there is a record, and its m is at least the key. Where there is none, r is 0, and the m of record 0 is less
 // than any key.
@@ -21,36 +32,49 @@ pub fn count_links(arena: &[u32], head: usize, key: u32) -> usize
     requires key_passes { passes arena.now (forward arena.now head 1) key ≡ true }
     ensures { (rs : List ℕ) → Searchable arena.now head rs → LinkCount arena.now key rs result }
 {
-    let mut n = 2;
-    while n < 8 {
-        let next = wide(get(arena, head, FORWARD + n));
-        if may_pass(arena, next, key) {
-            n += 1;
-        } else {
+    for n in 2..8 {
+        let next = get(arena, head, FORWARD + n) as usize;
+        if !may_pass(arena, next, key) {
             return n;
         }
     }
-    n
+    8
 }
 
-// The last record with each link below n in front, the head where there is none, and its adjust of that link. The arena
-// is only read.
-pub fn search(arena: &[u32], head: usize, key: u32, n: usize, cut: &mut [usize], sums: &mut [u32])
-    requires searchable { ((rs : List ℕ) × Searchable arena.now head rs) × (1 ≤ key) }
-    requires rooms_long { (n ≤ 8) × (8 ≤ length cut.old) × (8 ≤ length sums.old) }
-    ensures { (rs : List ℕ) → Searchable arena.now head rs → CutAt arena.now head key n rs cut.new sums.new }
+// The last record in front that link k leads to from a record of the list, or from its head.
+fn follow(arena: &[u32], from: usize, key: u32, k: usize) -> usize
+    requires along { (h : ℕ) × (rs : List ℕ) × Searchable arena.now h rs × Along arena.now h key (suc k) rs from }
+    requires small { (k < 8) × (1 ≤ key) }
+    ensures has { Has arena.now result }
+    ensures further { (h : ℕ) (rs : List ℕ) → Searchable arena.now h rs → Along arena.now h key (suc k) rs from → Along arena.now h key (suc k) rs result }
+    ensures last { (h : ℕ) (rs : List ℕ) → Searchable arena.now h rs → Along arena.now h key (suc k) rs from → result ≡ last_with arena.now k h (front arena.now key rs) }
 {
-    let mut cur = head;
-    let mut i = n;
-    while 0 < i {
-        let k = i - 1;
-        let next = wide(get(arena, cur, FORWARD + k));
-        if may_pass(arena, next, key) {
-            cur = next;
-        } else {
-            cut[k] = cur;
-            sums[k] = get(arena, cur, ADJUST + k);
-            i = k;
-        }
+    let mut last = from;
+    let mut next = get(arena, last, FORWARD + k) as usize;
+    while may_pass(arena, next, key) {
+        last = next;
+        next = get(arena, last, FORWARD + k) as usize;
     }
+    last
+}
+
+// Cuts a list below a link, from the highest link down. The arena is only read.
+pub fn search(arena: &[u32], head: usize, key: u32, links: usize) -> Cut
+    requires searchable { ((rs : List ℕ) × Searchable arena.now head rs) × (1 ≤ key) }
+    requires links_few { links ≤ 8 }
+    ensures links_same { result.links ≡ links }
+    ensures cut { (rs : List ℕ) → Searchable arena.now head rs → CutAt arena.now head key links rs result.lasts result.adjusts }
+{
+    let mut cut = Cut {
+        links,
+        lasts: [0; 8],
+        adjusts: [0; 8],
+    };
+    let mut last = head;
+    for k in (0..links).rev() {
+        last = follow(arena, last, key, k);
+        cut.lasts[k] = last;
+        cut.adjusts[k] = get(arena, last, ADJUST + k);
+    }
+    cut
 }

@@ -1,33 +1,22 @@
 -- `searching::search::search` meets its contract: the cut of the list for the key, with its adjusts.
--- The loop keeps `Going`, and its measure is the present link and the records left together.
-use Rattle.std.proofs.Common.{sym, ◌∙◌, rules}
-use Rattle.searching.proofs.SearchLaws.{going_start, going_has, going_jump, going_lower, going_less, going_done}
+-- The loop keeps `Going`, that the links from the present one up are cut.
+use Rattle.std.proofs.Common.{refl, rules}
+use Rattle.searching.proofs.SearchLaws.{going_start, going_way, going_turn, going_done}
 use Rattle.searching.proofs.search.search.Goals as goal
 
-pub loop-i-init : goal.loop-i-init
-loop-i-init c = search (rules, going_start)
+pub loop-k-init : goal.loop-k-init
+loop-k-init c = (going_start _ _ _ _ _ _ c.requires.links_few (search rules) (search rules), refl)
 
-pub get-requires : goal.get-requires
-get-requires c = (c.loop-i.invariant.has, search rules)
+pub follow-last-requires : goal.follow-last-requires
+follow-last-requires c =
+    record {
+      along = going_way _ _ _ _ _ _ _ _ c.loop-k.invariant.0 c.loop-k-test.true c.requires.searchable.0;
+      small = (search rules, c.requires.searchable.1);
+    }
 
-pub may_pass-requires : goal.may_pass-requires
-may_pass-requires c =
-    (going_has _ _ _ _ _ _ _ _ _ _ _ c.loop-i.invariant c.loop-i-test.true (c.wide-next.ensures ∙ c.get.ensures), search rules)
+pub loop-k-preserved : goal.loop-k-preserved
+loop-k-preserved c =
+    (going_turn _ _ _ _ _ _ _ _ c.loop-k.invariant.0 c.loop-k-test.true _ _ c.follow-last.ensures.further c.follow-last.ensures.last c.get.ensures, c.loop-k.invariant.1)
 
-pub loop-i-smaller-then-may_pass : goal.loop-i-smaller-then-may_pass
-loop-i-smaller-then-may_pass c =
-    going_less _ _ _ _ _ _ _ _ _ _ _ c.loop-i.invariant c.loop-i-test.true (c.wide-next.ensures ∙ c.get.ensures) (sym c.may_pass.ensures ∙ c.if-may_pass.true)
-
-pub loop-i-preserved-then-may_pass : goal.loop-i-preserved-then-may_pass
-loop-i-preserved-then-may_pass c =
-    going_jump _ _ _ _ _ _ _ _ _ _ _ c.loop-i.invariant c.loop-i-test.true (c.wide-next.ensures ∙ c.get.ensures) (sym c.may_pass.ensures ∙ c.if-may_pass.true)
-
-pub get-requires-else-may_pass : goal.get-requires-else-may_pass
-get-requires-else-may_pass c = (c.loop-i.invariant.has, search rules)
-
-pub loop-i-preserved : goal.loop-i-preserved
-loop-i-preserved c =
-    going_lower _ _ _ _ _ _ _ _ _ _ _ c.loop-i.invariant c.loop-i-test.true (c.wide-next.ensures ∙ c.get.ensures) (sym c.may_pass.ensures ∙ c.if-may_pass.false) _ c.get-else-may_pass.ensures
-
-pub returns : goal.returns
-returns c = search (rules, going_done)
+pub returns-clause-cut : goal.returns-clause-cut
+returns-clause-cut c = going_done _ _ _ _ _ _ _ _ c.loop-k.invariant.0 (search rules)
