@@ -1,5 +1,6 @@
-// A run of records, one of which has link 1, moved behind an open list: at once, or cut, settled and relinked.
+// A run of records, moved behind an open list: by one walk, at once where it is one record, or cut, settled and relinked.
 #![tactic(auto)]
 
 mod cut_run;
-pub mod linked_run;
+mod linked_run;
+pub mod move_run;

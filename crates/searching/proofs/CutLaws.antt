@@ -6,7 +6,8 @@ use Rattle.arena.specs.Arena.{m_word}
 use Rattle.arena.specs.inside.Chain.{All}
 use Rattle.arena.proofs.Cases.{lt_or_ge}
 use Rattle.arena.proofs.ListLaws.{all_left, all_right}
-use Rattle.searching.specs.inside.Cut.{front, behind}
+use Rattle.searching.specs.declared.search.Cut.{Cut}
+use Rattle.searching.specs.inside.Cut.{front, behind, LinkCount, CutAt}
 use Rattle.searching.proofs.SearchLaws.{front_in}
 
 pub front_behind : (a : List ℕ) (key : ℕ) (rs : List ℕ) → rs ≡ front a key rs ++ behind a key rs
@@ -33,3 +34,8 @@ module _ (P : ℕ → Type 0) (a : List ℕ) (key : ℕ) (rs : List ℕ) (h : Al
 
   pub all_behind : All P (behind a key rs)
   all_behind = all_right P (front a key rs) (behind a key rs) parted
+
+-- A cut below as many links as were counted is a cut below its own.
+pub cut_links : (a : List ℕ) (h key n : ℕ) (rs : List ℕ) (cut : Cut) → cut.links ≡ n → LinkCount a key rs n → CutAt a h key n rs cut.lasts cut.adjusts → LinkCount a key rs cut.links × CutAt a h key cut.links rs cut.lasts cut.adjusts
+cut_links a h key n rs cut same counted at =
+    (subst (LinkCount a key rs) (sym same) counted, subst (λ (k : ℕ). CutAt a h key k rs cut.lasts cut.adjusts) (sym same) at)

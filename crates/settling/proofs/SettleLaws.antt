@@ -1,27 +1,14 @@
 -- Laws of true p where the sums that enter a list change: at one link, for the records before the first with that link; or at links that no record has.
 -- A record reads the sums above its own links alone, and hands on its own adjusts below; so a change at link k is seen up to the first record with link k and not behind it.
-use Rattle.std.proofs.Common.{◌≡◌, ℕ, suc, ◌+◌, ◌%◌, ◌^◌, ◌<◌, ◌≤◌, List, [], ◌∷◌, ◌++◌, map, length, get_or, sym, refl, ap, ◌∙◌, ap₂, arith}
-use native.Mathlib.Nat.{mod-add-mod, add-mod-mod}
+use Rattle.std.proofs.Common.{◌≡◌, ℕ, suc, ◌+◌, ◌%◌, ◌^◌, ◌<◌, ◌≤◌, List, [], ◌∷◌, ◌++◌, map, sym, refl, ap, ◌∙◌, ap₂, arith}
 use Rattle.arena.specs.Arena.{level, p_word}
 use Rattle.arena.specs.Lazy.{sum_from}
 use Rattle.arena.specs.inside.Chain.{wrap, All, p_under, after, trues, leaving, Shape, Value}
-use Rattle.arena.specs.inside.Sums.{Suffixes}
 use Rattle.arena.proofs.Cases.{lt_or_ge}
 use Rattle.arena.proofs.SumLaws.{sum_agree, sum_frame, sum_split, add_both}
 use Rattle.arena.proofs.Frames.{after_in, after_out, trues_frame}
 use Rattle.settling.specs.inside.Lift.{Lifted}
-use Rattle.settling.specs.inside.Cached.{MakesUp}
 use Rattle.settling.proofs.LiftLaws.{Bumped, under_lifted, after_lifted}
-
--- The carry to a level, as the code takes it: the difference of the two sums, and q.
-module _ (l q d x y v : ℕ) (sums other : List ℕ) (p : (1 ≤ l) × (l ≤ 8) × (length sums ≡ 9) × (length other ≡ 9)) where
-  pub makes_up : x ≡ get_or sums l 0 → y ≡ get_or other l 0 → (d + y) % 2 ^ 32 ≡ x → v ≡ (q + d) % 2 ^ 32 → (f g : ℕ → ℕ) → Suffixes f sums → Suffixes g other → MakesUp f g l q v
-  makes_up x_is y_is d_is v_is f g s t =
-      let above : (d + sum_from g l 8) % 2 ^ 32 ≡ sum_from f l 8 % 2 ^ 32 = sym (add-mod-mod d (sum_from g l 8) (2 ^ 32)) ∙ ap (λ (z : ℕ). (d + z) % 2 ^ 32) (sym (y_is ∙ t.at l p.0 p.1)) ∙ d_is ∙ x_is ∙ s.at l p.0 p.1 in
-      let sum : q + d + sum_from g l 8 ≡ q + (d + sum_from g l 8) = omega arith in
-      ap (λ (n : ℕ). (n + sum_from g l 8) % 2 ^ 32) v_is ∙ mod-add-mod (q + d) (2 ^ 32) (sum_from g l 8)
-      ∙ ap (λ (n : ℕ). n % 2 ^ 32) sum
-      ∙ add_both q (d + sum_from g l 8) (sum_from f l 8) above
 
 -- The first record, if there is one, has link k: sums that differ at k alone are the same to such a list.
 abbrev pub Starts : List ℕ → ℕ → List ℕ → Type 0

@@ -281,8 +281,10 @@ abbrev Carries : (q : ℕ) (sums lasts : List ℕ) (i carry : ℕ) → Type 0
 Carries q sums lasts i carry = (f h : ℕ → ℕ) → Suffixes f sums → Suffixes h lasts → MakesUp f h i q carry
 
 module _ (a₀ b : List ℕ) (head n i stop q : ℕ) (cut sums lasts : List ℕ) (g : Settling a₀ b head n i stop q cut sums lasts) where
-  pub settling_turn : (b' : List ℕ) (carry first : ℕ) → length b' ≡ length b → 1 < i → Carries q sums lasts i carry → first ≡ word b head (3 + (i - 1)) → Lifts b b' (i - 1) first stop carry → Settling a₀ b' head n (i - 1) first q cut sums lasts
-  settling_turn b' carry first long more carries e lifts =
+  pub settling_turn : (b' : List ℕ) (carry first : ℕ) → length b' ≡ length b → 1 < i → Carries q sums lasts (i - 1 + 1) carry → first ≡ word b head (3 + (i - 1)) → Lifts b b' (i - 1) first stop carry → Settling a₀ b' head n (i - 1) first q cut sums lasts
+  settling_turn b' carry first long more made e lifts =
+      let same : i - 1 + 1 ≡ i = omega arith in
+      let carries = subst (λ (j : ℕ). Carries q sums lasts j carry) same made in
       record {
         length_kept = long ∙ g.length_kept;
         some = omega arith;

@@ -2,7 +2,7 @@
 ghost use Rattle.std.specs.Prelude.{ℕ, ◌<◌, List};
 ghost use Rattle.settling.specs.inside.Lift.{Lifting, Chained};
 
-use arena::words::{ADJUST, FORWARD, P, get, raise, wide};
+use arena::words::{ADJUST, FORWARD, P, get, raise};
 
 // Raises by v the p and the adjust k of each record with link k from `first` up to `stop`, which is not raised.
 pub fn raise_chain(arena: &mut [u32], first: usize, stop: usize, k: usize, v: u32)
@@ -14,6 +14,6 @@ pub fn raise_chain(arena: &mut [u32], first: usize, stop: usize, k: usize, v: u3
     while cur != stop {
         raise(arena, cur, P, v);
         raise(arena, cur, ADJUST + k, v);
-        cur = wide(get(arena, cur, FORWARD + k));
+        cur = get(arena, cur, FORWARD + k) as usize;
     }
 }

@@ -2,7 +2,7 @@
 ghost use Rattle.std.specs.Prelude.{ℕ, List};
 ghost use Rattle.settling.specs.inside.Lift.{Lifting, Chained};
 
-use arena::words::{FORWARD, P, get, raise, wide};
+use arena::words::{FORWARD, P, get, raise};
 
 // Raises by v the p of each record from `first` up to `stop`, which is not raised. The adjusts of link 0 count for no true
 // p, and stay.
@@ -13,6 +13,6 @@ pub fn raise_lowest(arena: &mut [u32], first: usize, stop: usize, v: u32)
     let mut cur = first;
     while cur != stop {
         raise(arena, cur, P, v);
-        cur = wide(get(arena, cur, FORWARD));
+        cur = get(arena, cur, FORWARD) as usize;
     }
 }

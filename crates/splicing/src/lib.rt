@@ -1,5 +1,6 @@
 // Links: the front of a list is moved behind an open list, and an open list is closed.
 #![tactic(auto)]
 
-pub mod close;
+pub mod ends;
 pub mod relink;
+pub mod rest;

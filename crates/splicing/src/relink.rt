@@ -1,11 +1,14 @@
 // Moving the front of a list behind an open list.
-ghost use Rattle.std.specs.Prelude.{◌≡◌, ◌<◌, length};
+ghost use Rattle.std.specs.Prelude.{◌≡◌, ◌<◌};
 ghost use Rattle.arena.specs.Arena.{forward};
 ghost use Rattle.arena.specs.inside.Chain.{Has};
 ghost use Rattle.arena.specs.inside.Sums.{RenewedBelow};
 ghost use Rattle.splicing.specs.inside.Open.{relink_one, relink_lowest, FrontReady, FrontMoved, last_sums, cut_sums};
 
-use arena::words::{ADJUST, BACK, FORWARD, get, store, wide};
+use crate::ends::Ends;
+use crate::rest::Rest;
+use arena::words::{ADJUST, BACK, FORWARD, get, store};
+use searching::search::Cut;
 
 // Moves the records of the head up to `to` behind `from` at link k, and makes adjust k of the head v.
 pub fn relink_one(arena: &mut [u32], head: usize, from: usize, to: usize, k: usize, v: u32)
@@ -25,42 +28,30 @@ pub fn relink_lowest(arena: &mut [u32], head: usize, from: usize, to: usize, v: 
     requires front_there { Has arena.old (forward arena.old head 0) × (from < 4_294_967_296) }
     ensures { arena.new ≡ relink_lowest arena.old head from to v }
 {
-    let first = wide(get(arena, head, FORWARD));
+    let first = get(arena, head, FORWARD) as usize;
     relink_one(arena, head, from, to, 0, v);
     store(arena, first, BACK, from as u32);
 }
 
-// Moves the records in front, whose last ones with each link below n are in `cut` and the adjusts that these had in
-// `found`, behind the ends of an open list. The sums of the head and those of the ends are renewed on the way down; link
-// 0 counts for none of them.
-pub fn relink(
-    arena: &mut [u32],
-    head: usize,
-    cut: &[usize],
-    found: &[u32],
-    n: usize,
-    ends: &mut [usize],
-    sums: &mut [u32],
-    lasts: &mut [u32],
-)
-    requires front_ready { FrontReady arena.old head cut.now found.now ends.old n }
-    requires rooms_long { (length sums.old ≡ 9) × (length lasts.old ≡ 9) }
-    ensures front_moved { FrontMoved arena.old arena.new head cut.now found.now ends.old ends.new n }
-    ensures sums_renewed { RenewedBelow (cut_sums found.now) n sums.old sums.new }
-    ensures lasts_renewed { RenewedBelow (last_sums arena.old cut.now) n lasts.old lasts.new }
+// Moves the records in front of a list, where it is cut, behind the ends of an open list. The sums of the head and those of
+// the ends are renewed on the way down; link 0 counts for none of them.
+pub fn relink(arena: &mut [u32], rest: &mut Rest, cut: &Cut, ends: &mut Ends)
+    requires { FrontReady arena.old rest.old.head cut.now ends.old }
+    ensures front_moved { FrontMoved arena.old arena.new rest.old.head cut.now ends.old ends.new }
+    ensures head_kept { rest.new.head ≡ rest.old.head }
+    ensures sums_renewed { RenewedBelow (cut_sums cut.now.adjusts) cut.now.links rest.old.sums rest.new.sums }
+    ensures lasts_renewed { RenewedBelow (last_sums arena.old cut.now.lasts) cut.now.links ends.old.sums ends.new.sums }
 {
-    let mut i = n;
-    while 1 < i {
-        let k = i - 1;
-        let to = cut[k];
-        let adjust = found[k];
-        relink_one(arena, head, ends[k], to, k, adjust);
-        ends[k] = to;
-        sums[k] = std::num::wrapping_add_u32(sums[i], adjust);
-        lasts[k] = std::num::wrapping_add_u32(lasts[i], get(arena, to, ADJUST + k));
-        i = k;
+    let head = rest.head;
+    for k in (1..cut.links).rev() {
+        let to = cut.lasts[k];
+        let adjust = cut.adjusts[k];
+        relink_one(arena, head, ends.lasts[k], to, k, adjust);
+        ends.lasts[k] = to;
+        rest.sums[k] = rest.sums[k + 1].wrapping_add(adjust);
+        ends.sums[k] = ends.sums[k + 1].wrapping_add(get(arena, to, ADJUST + k));
     }
-    let to = cut[0];
-    relink_lowest(arena, head, ends[0], to, found[0]);
-    ends[0] = to;
+    let to = cut.lasts[0];
+    relink_lowest(arena, head, ends.lasts[0], to, cut.adjusts[0]);
+    ends.lasts[0] = to;
 }

@@ -5,3 +5,4 @@ pub mod Confined
 pub mod ThreadLaws
 pub mod NewerStep
 pub mod OlderStep
+pub mod KeptLaws

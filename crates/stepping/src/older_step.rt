@@ -1,42 +1,28 @@
 // The step of the merge that moves a run of the older list.
-ghost use Rattle.stepping.specs.inside.Trio.{Kept};
+ghost use Rattle.std.specs.Prelude.{◌≡◌};
+ghost use Rattle.stepping.specs.inside.Trio.{KeptIn};
 ghost use Rattle.stepping.specs.inside.Running.{OlderReady, OlderDone};
 
-use crate::SECOND;
 use arena::sums::true_p;
-use arena::words::{FORWARD, M, get, wide};
-use cutting::linked_run::linked_run;
+use arena::words::{FORWARD, M, get};
+use cutting::move_run::move_run;
 use dropping::drop_tied::drop_tied;
-use moving::walk_run::walk_run;
-use searching::search::may_pass;
+use splicing::ends::Ends;
+use splicing::rest::Rest;
 
 // Moves the records of the older list whose m is at least that of the newer list's first: each p is raised by that first
 // one's p and the rib. Where the last of them has the same m, the newer list's first record leaves: of two records of one m
-// the older part's stays. A run in which no record has link 1 is one walk.
-pub fn older_step(
-    arena: &mut [u32],
-    older: usize,
-    newer: usize,
-    rib: u32,
-    ends: &mut [usize],
-    olders: &mut [u32],
-    newers: &mut [u32],
-    lasts: &mut [u32],
-)
-    requires older_ready { OlderReady rib arena.old older newer ends.old }
-    requires kept { Kept arena.old older newer ends.old olders.old newers.old lasts.old }
-    ensures older_done { OlderDone rib arena.old arena.new older newer ends.old ends.new }
-    ensures kept_after { Kept arena.new older newer ends.new olders.new newers.new lasts.new }
+// the older part's stays.
+pub fn older_step(arena: &mut [u32], older: &mut Rest, newer: &mut Rest, rib: u32, ends: &mut Ends)
+    requires older_ready { OlderReady rib arena.old older.old.head newer.old.head ends.old.lasts }
+    requires kept { KeptIn arena.old older.old newer.old ends.old }
+    ensures older_done { OlderDone rib arena.old arena.new older.old.head newer.old.head ends.old.lasts ends.new.lasts }
+    ensures heads_kept { (older.new.head ≡ older.old.head) × (newer.new.head ≡ newer.old.head) }
+    ensures kept_after { KeptIn arena.new older.new newer.new ends.new }
 {
-    let s = wide(get(arena, newer, FORWARD));
+    let s = get(arena, newer.head, FORWARD) as usize;
     let key = get(arena, s, M);
-    let q = true_p(arena, s, newers) + rib;
-    let second = wide(get(arena, older, SECOND));
-    if may_pass(arena, second, key) {
-        linked_run(arena, older, key, q, ends, olders, lasts);
-        drop_tied(arena, newer, s, ends[0], key, newers);
-    } else {
-        walk_run(arena, older, key, q, ends, olders, lasts);
-        drop_tied(arena, newer, s, ends[0], key, newers);
-    }
+    let q = true_p(arena, s, &newer.sums) + rib;
+    move_run(arena, older, key, q, ends);
+    drop_tied(arena, newer.head, s, ends.lasts[0], key, &mut newer.sums);
 }

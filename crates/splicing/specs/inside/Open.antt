@@ -4,6 +4,8 @@ use Rattle.arena.specs.Arena.{level, m_word, p_word, adjust, forward_at, adjust_
 use Rattle.arena.specs.Lazy.{next_with, last_with}
 use Rattle.arena.specs.inside.Chain.{put, All, Away, growing, LinkedOf, Linked, Same}
 use Rattle.arena.specs.inside.Backs.{BacksKept}
+use Rattle.searching.specs.declared.search.Cut.{Cut}
+use Rattle.splicing.specs.declared.ends.Ends.{Ends}
 
 -- The records rs are the open list of the head h.
 abbrev pub OpenLinked : List ℕ → ℕ → List ℕ → Type 0
@@ -75,13 +77,13 @@ pub record Spliced (a b : List ℕ) (h hc : ℕ) (cs front back cut sums ends en
   pub stored : b ≡ put links (forward a h 0) back_at (slice_index ends 0)
 
 -- Such a front of the head h is there, whichever it is, and it is moved.
-abbrev pub FrontReady : List ℕ → ℕ → List ℕ → List ℕ → List ℕ → ℕ → Type 0
-FrontReady a h cut sums ends n =
-    (hc : ℕ) × (cs : List ℕ) × (front : List ℕ) × (back : List ℕ) × Relinkable a h hc cs front back cut sums ends n
+abbrev pub FrontReady : List ℕ → ℕ → Cut → Ends → Type 0
+FrontReady a h cut ends =
+    (hc : ℕ) × (cs : List ℕ) × (front : List ℕ) × (back : List ℕ) × Relinkable a h hc cs front back cut.lasts cut.adjusts ends.lasts cut.links
 
-abbrev pub FrontMoved : (a b : List ℕ) (h : ℕ) (cut sums ends ends' : List ℕ) (n : ℕ) → Type 0
-FrontMoved a b h cut sums ends ends' n =
-    (hc : ℕ) (cs front back : List ℕ) → Relinkable a h hc cs front back cut sums ends n → Spliced a b h hc cs front back cut sums ends ends' n
+abbrev pub FrontMoved : (a b : List ℕ) (h : ℕ) (cut : Cut) (ends ends' : Ends) → Type 0
+FrontMoved a b h cut ends ends' =
+    (hc : ℕ) (cs front back : List ℕ) → Relinkable a h hc cs front back cut.lasts cut.adjusts ends.lasts cut.links → Spliced a b h hc cs front back cut.lasts cut.adjusts ends.lasts ends'.lasts cut.links
 
 -- The open list was closed.
 pub record Closed (a b : List ℕ) (h : ℕ) (cs ends : List ℕ) : Type 0 where

@@ -4,6 +4,8 @@ use Rattle.arena.specs.Arena.{m_word, adjust}
 use Rattle.arena.specs.inside.Chain.{All, Away}
 use Rattle.arena.specs.inside.Sums.{Suffixes}
 use Rattle.searching.specs.inside.Cut.{Searchable}
+use Rattle.splicing.specs.declared.ends.Ends.{Ends}
+use Rattle.splicing.specs.declared.rest.Rest.{Rest}
 use Rattle.splicing.specs.inside.Open.{OpenLinked, EndsOf, last_sums}
 
 -- The m of a record is 1 or more, and with 1 added it does not leave 32 bits.
@@ -35,3 +37,7 @@ pub record Kept (a : List ℕ) (ho hn : ℕ) (last olders newers lasts : List �
   pub older : Suffixes (adjust a ho) olders
   pub newer : Suffixes (adjust a hn) newers
   pub ends : Suffixes (last_sums a last) lasts
+
+-- Those of what is left of both lists, and of the ends of the result.
+abbrev pub KeptIn : List ℕ → Rest → Rest → Ends → Type 0
+KeptIn a older newer ends = Kept a older.head newer.head ends.lasts older.sums newer.sums ends.sums

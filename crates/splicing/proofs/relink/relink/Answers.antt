@@ -1,41 +1,40 @@
 -- `splicing::relink::relink` meets its contract: the front is moved behind the open list, and the sums kept are renewed.
--- The loop keeps `Relinking`, and its measure is the links left.
-use Rattle.std.proofs.Common.{◌≤◌, arith, rules}
-use Rattle.splicing.proofs.Relinking.{stepped, relinking_start, rewiring_has, relinking_turn, relinking_has, relinking_first, relinking_done, heads_renewed, lasts_renewed}
+-- The loop keeps `Relinking`, and the head's number.
+use Rattle.std.proofs.Common.{refl, arith, rules}
+use Rattle.splicing.proofs.Relinking.{relinking_start, relinking_has, relinking_turn, lowest_has, lowest_first, relinking_done, heads_renewed, lasts_renewed}
 use Rattle.splicing.proofs.relink.relink.Goals as goal
 
-pub loop-i-init : goal.loop-i-init
-loop-i-init c = search (rules, relinking_start)
+pub loop-k-init : goal.loop-k-init
+loop-k-init c = (relinking_start _ _ _ _ _ c.requires (search rules) (search rules), refl)
 
 pub relink_one-requires : goal.relink_one-requires
-relink_one-requires c =
-    rewiring_has _ _ _ _ _ _ _ _ _ _ (stepped _ c.loop-i-test.true) c.loop-i.invariant.rewiring
+relink_one-requires c = relinking_has _ _ _ _ _ _ _ _ _ c.loop-k.invariant.0 c.loop-k-test.true
 
 pub get-requires : goal.get-requires
 get-requires c =
-    let has = rewiring_has _ _ _ _ _ _ _ _ _ _ (stepped _ c.loop-i-test.true) c.loop-i.invariant.rewiring in
+    let has = relinking_has _ _ _ _ _ _ _ _ _ c.loop-k.invariant.0 c.loop-k-test.true in
     let to = has.3 in
     (omega arith, search rules)
 
-pub loop-i-preserved : goal.loop-i-preserved
-loop-i-preserved c =
-    relinking_turn _ _ _ _ _ _ _ _ _ _ _ _ _ c.loop-i.invariant c.loop-i-test.true _ c.relink_one.ensures _ _ _ c.wrapping_add_u32.ensures.value c.get.ensures c.wrapping_add_u32-in-loop-i.ensures.value
+pub loop-k-preserved : goal.loop-k-preserved
+loop-k-preserved c =
+    (relinking_turn _ _ _ _ _ _ _ _ _ c.loop-k.invariant.0 c.loop-k-test.true _ c.relink_one.ensures _ c.get.ensures, c.loop-k.invariant.1)
 
 pub relink_lowest-requires : goal.relink_lowest-requires
 relink_lowest-requires c =
-    let over : c.loop-i.i ≤ 1 = search rules in
-    let has = relinking_has _ _ _ _ _ _ _ _ _ _ _ _ _ c.loop-i.invariant over in
+    let inv = c.loop-k.invariant.0 in
+    let has = lowest_has _ _ _ _ _ _ _ _ _ inv (search rules) in
     record {
       records_there = (has.1, has.2, has.3);
-      front_there = relinking_first _ _ _ _ _ _ _ _ _ _ _ _ _ c.loop-i.invariant over (search rules);
+      front_there = lowest_first _ _ _ _ _ _ _ _ _ inv (search rules) c.requires;
     }
 
-pub returns : goal.returns
-returns c =
-    let inv = c.loop-i.invariant in
-    let over : c.loop-i.i ≤ 1 = search rules in
-    record {
-      front_moved = relinking_done _ _ _ _ _ _ _ _ _ _ _ _ _ inv over _ c.relink_lowest.ensures;
-      sums_renewed = heads_renewed _ _ _ _ _ _ _ _ _ _ _ _ _ inv over;
-      lasts_renewed = lasts_renewed _ _ _ _ _ _ _ _ _ _ _ _ _ inv over;
-    }
+pub returns-clause-front_moved : goal.returns-clause-front_moved
+returns-clause-front_moved c =
+    relinking_done _ _ _ _ _ _ _ _ _ c.loop-k.invariant.0 (search rules) _ c.relink_lowest.ensures
+
+pub returns-clause-sums_renewed : goal.returns-clause-sums_renewed
+returns-clause-sums_renewed c = heads_renewed _ _ _ _ _ _ _ _ _ c.loop-k.invariant.0 (search rules)
+
+pub returns-clause-lasts_renewed : goal.returns-clause-lasts_renewed
+returns-clause-lasts_renewed c = lasts_renewed _ _ _ _ _ _ _ _ _ c.loop-k.invariant.0 (search rules)

@@ -1,8 +1,8 @@
--- `splicing::close::close` meets its contract: the open list is closed.
--- The loop keeps `Closing`, and its measure is the links left.
+-- `splicing::ends::Ends::close` meets its contract: the open list is closed.
+-- The loop keeps `Closing`, that the links below the present one are closed.
 use Rattle.std.proofs.Common.{rules}
 use Rattle.splicing.proofs.Closing.{closing_start, closing_has, closing_turn, closing_done}
-use Rattle.splicing.proofs.close.close.Goals as goal
+use Rattle.splicing.proofs.ends.Ends.close.Goals as goal
 
 pub loop-k-init : goal.loop-k-init
 loop-k-init c = search (rules, closing_start)
