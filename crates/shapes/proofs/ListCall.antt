@@ -4,23 +4,20 @@ use mathlib.Core.Path.{◌≡◌, refl, sym, ap, subst, ◌∙◌}
 use mathlib.Core.List.{List}
 use Prim.Native.Nat.{ℕ, ◌+◌, ◌*◌, ◌-◌, ◌≤◌}
 use lib.ListN.{length}
-use Rattle.checks.specs.Check.{number_of}
 use Rattle.checks.specs.declared.Check.{Check}
 use Rattle.checks.specs.Limits.{most_rib, buffer_words}
-use Rattle.checks.specs.Answer.{Answer, refused, taken, Asked, also, number}
+use Rattle.checks.specs.Answer.{Answer, refused, taken, Asked, also}
 use Rattle.checks.proofs.Answers.{also_taken}
 use Rattle.slicing.specs.Tree.{Tree, gauge_count, size_count}
-use Rattle.facefile.specs.declared.Face.{Face}
+use Rattle.facefile.specs.declared.Counts.{Counts}
 use Rattle.facefile.specs.Format.{face_of}
-use Rattle.facefile.specs.Summary.{summary}
-use Rattle.facefile.proofs.Answered.{Counts}
+use Rattle.facefile.specs.Summary.{counted}
 use Rattle.lent.specs.Lent.{Lent, lent}
 use Rattle.lent.specs.Questions.{levels_lent, rib_given, buffers_lent, output_lent}
 use Rattle.lent.proofs.Asking.{Levelled, levels_taken, rib_taken, buffers_taken, output_taken}
-use Rattle.lent.proofs.Calling.{counts, asked_of_counts, refused_by_file, refused_by_asked, asked_taken, taken_by_all}
-use Rattle.shapes.specs.declared.Listed.{Listed}
+use Rattle.lent.proofs.Calling.{CountedFace, call_no_file, called, call_no_asked, call_goes}
 use Rattle.shapes.specs.Listing.{list_asks, list_call, ListLeaves}
-use Rattle.shapes.specs.inside.Taken.{Writable, Wrote}
+use Rattle.shapes.specs.inside.Taken.{Writable, Wrote, listed_as}
 
 -- What was asked of a face of n sizes and g gauges, where all was answered "yes".
 module _ (n g : ℕ) (levels : List ℕ) (rib arena scratch output : ℕ) where
@@ -51,70 +48,57 @@ module _ (file levels : List ℕ) (rib : ℕ) (arena scratch output : List ℕ) 
   abbrev answer : Answer Tree
   answer = list_call (face_of file) levels rib old
 
-  abbrev asked : ℕ → ℕ → Asked
-  asked n g = list_asks n g levels rib (length arena) (length scratch) (length output)
+  abbrev asks : Counts → Asked
+  asks n = list_asks n.sizes n.gauges levels rib (length arena) (length scratch) (length output)
 
-  abbrev asks : Tree → Asked
-  asks t = asked (size_count t) (gauge_count t)
+  refused_so : (c : Check) → answer ≡ refused c → ListLeaves answer levels rib old (listed_as (refused c)) old
+  refused_so c bad =
+      subst (λ (a : Answer Tree). ListLeaves a levels rib old (listed_as (refused c)) old) (sym bad)
+      (record { answered = refl; output = refl; arena = refl; scratch = refl })
 
-  refused_all : (n : ℕ) → (c : Check) × (answer ≡ refused c) × (n ≡ number_of c) → (r : Listed) → r ≡ record { number = n; count = 0 } → ListLeaves answer levels rib old r old
-  refused_all n bad r made =
-      subst (λ (a : Answer Tree). ListLeaves a levels rib old r old) (sym bad.1)
-      (record {
-        answered = made ∙ ap (λ (m : ℕ). record { number = m; count = 0 }) bad.2;
-        output = refl;
-        arena = refl;
-        scratch = refl;
-      })
+  -- Checks 1 to 13.
+  pub list_no_file : (c : Check) → refused c ≡ counted (face_of file) → ListLeaves answer levels rib old (listed_as (refused c)) old
+  unfolding list_call
+  list_no_file c is = refused_so c (call_no_file (face_of file) asks c is)
 
-  module _ (f : Face) (read : f ≡ summary (face_of file)) where
-    -- Checks 1 to 13.
-    pub list_file : (f.number ≡ 0 → ⊥) → (r : Listed) → r ≡ record { number = f.number; count = 0 } → ListLeaves answer levels rib old r old
+  module _ (n : Counts) (read : taken n ≡ counted (face_of file)) where
+    -- The checks after 13.
+    pub list_no_asked : (c : Check) → refused c ≡ asks n → ListLeaves answer levels rib old (listed_as (refused c)) old
     unfolding list_call
-    list_file other = refused_all f.number (refused_by_file (face_of file) asks f read other)
+    list_no_asked c is = refused_so c (call_no_asked (face_of file) asks n read c is)
 
-    module _ (zero : f.number ≡ 0) where
-      abbrev face : Counts f (face_of file)
-      face = counts (face_of file) asks f read zero
+    module _ (yes : taken tt ≡ asks n) where
+      abbrev face : CountedFace n (face_of file)
+      face = called (face_of file) asks n read
 
-      module _ (n : ℕ) (is : n ≡ number (asked f.sizes f.gauges)) where
-        of_tree : n ≡ number (asks face.tree)
-        of_tree = is ∙ ap number (asked_of_counts (face_of file) asks f read zero asked)
+      pub list_writable : Writable file levels rib arena output
+      list_writable =
+          let t = face.tree in
+          let all = asks_taken (size_count t) (gauge_count t) levels rib (length arena) (length scratch) (length output) (ap asks (sym face.counts) ∙ sym yes) in
+          record {
+            ready =
+                record {
+                  tree = t;
+                  face = face.face;
+                  as_many = all.levelled.as_many;
+                  low = all.levelled.low;
+                  high = all.levelled.high;
+                  narrow = all.narrow;
+                  long = all.arena_long;
+                };
+            room = all.room;
+          }
 
-        -- The checks after 13.
-        pub list_asked : (n ≡ 0 → ⊥) → (r : Listed) → r ≡ record { number = n; count = 0 } → ListLeaves answer levels rib old r old
-        unfolding list_call
-        list_asked other = refused_all n (refused_by_asked (face_of file) asks f read zero n of_tree other)
-
-        module _ (passed : n ≡ 0) where
-          pub list_writable : Writable file levels rib arena output
-          list_writable =
-              let t = face.tree in
-              let all = asks_taken (size_count t) (gauge_count t) levels rib (length arena) (length scratch) (length output) (asked_taken (face_of file) asks f read zero n of_tree passed) in
-              record {
-                ready =
-                    record {
-                      tree = t;
-                      face = face.face;
-                      as_many = all.levelled.as_many;
-                      low = all.levelled.low;
-                      high = all.levelled.high;
-                      narrow = all.narrow;
-                      long = all.arena_long;
-                    };
-                room = all.room;
-              }
-
-          pub list_done : (arena' scratch' output' : List ℕ) (count : ℕ) (r : Listed) → Wrote file levels rib output arena' output' count → r ≡ record { number = 0; count = count } → ListLeaves answer levels rib old r (lent arena' scratch' output')
-          unfolding list_call Wrote
-          list_done arena' scratch' output' count r wrote made =
-              let t = face.tree in
-              let w = wrote t face.face in
-              subst (λ (a : Answer Tree). ListLeaves a levels rib old r (lent arena' scratch' output'))
-              (sym (taken_by_all (face_of file) asks f read zero n of_tree passed))
-              (record {
-                answered = made ∙ ap (λ (m : ℕ). record { number = 0; count = m }) w.counted;
-                output = w.output;
-                arena = w.root;
-                scratch = tt;
-              })
+      pub list_done : (arena' scratch' output' : List ℕ) (count : ℕ) → Wrote file levels rib output arena' output' count → ListLeaves answer levels rib old (listed_as (taken count)) (lent arena' scratch' output')
+      unfolding list_call Wrote
+      list_done arena' scratch' output' count wrote =
+          let t = face.tree in
+          let w = wrote t face.face in
+          subst (λ (a : Answer Tree). ListLeaves a levels rib old (listed_as (taken count)) (lent arena' scratch' output'))
+          (sym (call_goes (face_of file) asks n read yes))
+          (record {
+            answered = ap (λ (m : ℕ). listed_as (taken m)) w.counted;
+            output = w.output;
+            arena = w.root;
+            scratch = tt;
+          })
