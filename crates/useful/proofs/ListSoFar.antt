@@ -3,6 +3,7 @@
 use mathlib.Core.Path.{◌≡◌, refl, sym, ap, subst, ◌∙◌}
 use mathlib.Core.Bool.{Bool, true, false}
 use mathlib.Core.List.{List}
+use Rattle.std.specs.Prelude.{Some, None}
 use Prim.Native.Nat.{ℕ, ◌+◌, ◌*◌, ◌≤◌, ◌<◌}
 use native.Mathlib.Nat.{pow-le-pow_right}
 use native.Mathlib.Omega.{arith}
@@ -17,7 +18,7 @@ use Rattle.sizes.specs.inside.Sizes.{sizes_in, SizeIn}
 use Rattle.sizes.specs.declared.Size.{Size}
 use Rattle.sizes.proofs.SizesIn.{in_length}
 use Rattle.useful.specs.inside.Order.{GaugeBytes, list_places, first_digits, order_word}
-use Rattle.useful.specs.inside.Narrowest.{size_no, Narrowest, NextBelow}
+use Rattle.useful.specs.inside.Narrowest.{size_no, NextBelow}
 use Rattle.useful.proofs.Digits.{digits_more, digits_none, digits_all, digits_fit}
 use Rattle.useful.proofs.Places.{places_length, place_is, place_low}
 use Rattle.useful.proofs.SizesFit.{Bytes, sizes_fit}
@@ -48,13 +49,12 @@ high_more s h i known less =
         let same = ap (λ (n : ℕ). height (size_no (gauge_shapes s) n)) place in
         omega arith
 
--- The word of the items that are not lower than h, and the place of the size that is next.
-pub record SoFar (s : List Item) (word h k : ℕ) : Type 0 where
+-- The word of the items that are not lower than h.
+pub record SoFar (s : List Item) (word h : ℕ) : Type 0 where
   items : ℕ
   high : HighItems s h items
   word_is : word ≡ first_digits (list_places s) items
   few : length s ≤ 8
-  pub next : NextBelow s h k
 
 module _ (bytes : List ℕ) (count : ℕ) where
   abbrev s : List Item
@@ -63,8 +63,8 @@ module _ (bytes : List ℕ) (count : ℕ) where
   as_many : length s ≡ count
   as_many = in_length count bytes
 
-  pub none_yet : (k : ℕ) → Bytes bytes → GaugeBytes count bytes → NextBelow s 65_536 k → SoFar s 0 65_536 k
-  none_yet k fit gauge next =
+  pub none_yet : Bytes bytes → GaugeBytes count bytes → SoFar s 0 65_536
+  none_yet fit gauge =
       record {
         items = 0;
         high = record {
@@ -74,28 +74,27 @@ module _ (bytes : List ℕ) (count : ℕ) where
         };
         word_is = sym (digits_none (list_places s));
         few = omega (arith, as_many);
-        next = next;
       }
 
   -- Where no size is lower, no item is left.
-  no_more : (word h k : ℕ) (known : SoFar s word h k) → count ≤ k → known.items < length (gauge_shapes s) → ⊥
-  no_more word h k known done less =
+  no_more : (word h : ℕ) (known : SoFar s word h) → NextBelow s h None → known.items < length (gauge_shapes s) → ⊥
+  no_more word h known none less =
       let found = index_found _ s (size 0 0) (item_printed s known.items less) in
       let same = ap height found.same in
-      let tall = known.next.none (omega (arith, as_many)) _ found.index in
+      let tall = none _ found.index in
       let low = known.high.lower known.items (omega arith) less in
       omega arith
 
-  pub all_listed : (word h k : ℕ) → SoFar s word h k → count ≤ k → word ≡ order_word s
+  pub all_listed : (word h : ℕ) → SoFar s word h → NextBelow s h None → word ≡ order_word s
   unfolding order_word
-  all_listed word h k known done =
-      let none = no_more word h k known done in
+  all_listed word h known last =
+      let none = no_more word h known last in
       let all : known.items ≡ length (list_places s) = omega (arith, known.high.to_end, places_length s) in
       known.word_is ∙ ap (first_digits (list_places s)) all ∙ digits_all (list_places s)
 
-  module _ (word h k : ℕ) (known : SoFar s word h k) (more : k < count) where
-    narrowest : Narrowest s h k
-    narrowest = known.next.next (omega (arith, as_many))
+  module _ (word h k : ℕ) (known : SoFar s word h) (narrowest : NextBelow s h (Some k)) where
+    pub place_inside : k < count
+    place_inside = omega (arith, narrowest.inside, as_many)
 
     item : NextItem s known.items k
     item = next_item s h k narrowest known.items known.high
@@ -120,18 +119,17 @@ module _ (bytes : List ℕ) (count : ℕ) where
     -- The size that is read at the place is the next item.
     module _ (z : Size) (read : SizeIn bytes k z) where
       same_height : z.height ≡ height (size_no s k)
-      same_height = ap height (read.same count more)
+      same_height = ap height (read.same count place_inside)
 
       pub falls : z.height < h
       falls = omega (arith, same_height, narrowest.lower)
 
-      pub one_more : (k' : ℕ) → NextBelow s z.height k' → SoFar s (16 * word + (k + 1)) z.height k'
-      one_more k' next =
+      pub one_more : SoFar s (16 * word + (k + 1)) z.height
+      one_more =
           let at_item = same_height ∙ sym (ap height item.same) in
           record {
             items = known.items + 1;
             high = subst (λ (n : ℕ). HighItems s n (known.items + 1)) (sym at_item) (high_more s h known.items known.high item.inside);
             word_is = digit_more;
             few = known.few;
-            next = next;
           }

@@ -1,7 +1,8 @@
 -- The narrowest size lower than a height, among the sizes that have been looked at.
--- The best so far is no worse than any of these, and where the next is narrower it is so too.
+-- The best so far is no worse than any of these, and where the next is the first that is lower, or narrower, it is so too.
 use mathlib.Core.Path.{◌≡◌, refl, sym, ap, subst, ◌∙◌}
-use mathlib.Core.Bool.{Bool, true, false}
+use mathlib.Core.Bool.{Bool, true, false, true≢false}
+use Rattle.std.specs.Prelude.{Option, Some, None, MatchOption}
 use mathlib.Core.List.{List}
 use Prim.Native.Nat.{ℕ, ◌+◌, ◌≤◌, ◌<◌}
 use native.Mathlib.Omega.{arith}
@@ -14,7 +15,6 @@ use Rattle.sizes.specs.declared.Size.{Size}
 use Rattle.sizes.proofs.SizesIn.{in_length}
 use Rattle.useful.specs.inside.Narrowest.{size_no, narrower, Narrowest, NextBelow}
 use Rattle.useful.proofs.NoWorse.{NoWorse, Narrower, narrower_true, narrower_false}
-use Rattle.useful.proofs.SizesFit.{Bytes, sizes_fit}
 
 -- The height and the width that the code holds, as an item.
 abbrev held : Size → Item
@@ -31,85 +31,109 @@ record Taken (s : List Item) (h : ℕ) (best : Item) (place k : ℕ) : Type 0 wh
   lower : best.m < h
   first : (i : ℕ) → i < place → size_no s i ≡ best → ⊥
 
--- The best of the first k sizes that are lower than h, and its place. Where none is taken yet, it is wider than every size of two bytes.
-pub record Best (s : List Item) (h : ℕ) (best : Item) (place k : ℕ) : Type 0 where
-  pub inside : k ≤ length s
-  to_end : place ≤ length s
-  best_of : BestOf s h k best
-  some : place < length s → Taken s h best place k
-  none : length s ≤ place → best.p ≡ 65_536
+-- The best of the first k sizes that are lower than h, with its place; where none is taken, none of them is lower.
+abbrev Seen : List Item → ℕ → ℕ → Option (ℕ × Size) → Type 0
+Seen s h k None = (i : ℕ) → i < k → height (size_no s i) < h → ⊥
+Seen s h k (Some b) = Taken s h (held b.1) b.0 k × BestOf s h k (held b.1)
 
-best_more : (s : List Item) (h k : ℕ) (best : Item) → BestOf s h k best → (height (size_no s k) < h → NoWorse best (size_no s k)) → BestOf s h (k + 1) best
-best_more s h k best before here i less low = step (ltb i k) refl
+pub record Best (s : List Item) (h : ℕ) (best : Option (ℕ × Size)) (k : ℕ) : Type 0 where
+  pub inside : k ≤ length s
+  seen : Seen s h k best
+
+-- What holds of the first k sizes and of the next holds of one size more.
+one_more : (P : ℕ → Type 0) (k : ℕ) → ((i : ℕ) → i < k → P i) → P k → (i : ℕ) → i < k + 1 → P i
+one_more P k before here i less = step (ltb i k) refl
   where
-    step : (b : Bool) → ltb i k ≡ b → NoWorse best (size_no s i)
-    step true e = before i (ltb-true i k e) low
+    step : (b : Bool) → ltb i k ≡ b → P i
+    step true e = before i (ltb-true i k e)
     step false e =
         let over = ltb-false i k e in
         let place : i ≡ k = omega arith in
-        subst (λ (j : ℕ). height (size_no s j) < h → NoWorse best (size_no s j)) (sym place) here low
+        subst P (sym place) here
 
--- The next size is not lower than h, or not narrower than the best.
-passed : (s : List Item) (h : ℕ) (best : Item) (place k : ℕ) → Best s h best place k → k < length s → (height (size_no s k) < h → NoWorse best (size_no s k)) → Best s h best place (k + 1)
-passed s h best place k known more here =
+-- What the next size is not: lower than h, and narrower than the best.
+abbrev NoBetter : List Item → ℕ → ℕ → Option (ℕ × Size) → Type 0
+NoBetter s h k None = height (size_no s k) < h → ⊥
+NoBetter s h k (Some b) = height (size_no s k) < h → NoWorse (held b.1) (size_no s k)
+
+passed : (s : List Item) (h : ℕ) (best : Option (ℕ × Size)) (k : ℕ) → Best s h best k → k < length s → NoBetter s h k best → Best s h best (k + 1)
+passed s h None k known more here =
+    record { inside = omega arith; seen = one_more (λ (i : ℕ). height (size_no s i) < h → ⊥) k known.seen here }
+passed s h (Some b) k known more here =
+    let taken = known.seen.0 in
     record {
       inside = omega arith;
-      to_end = known.to_end;
-      best_of = best_more s h k best known.best_of here;
-      some = λ inside. let taken = known.some inside in record { seen = omega arith; same = taken.same; lower = taken.lower; first = taken.first };
-      none = known.none;
+      seen = (
+        record { seen = (let e = taken.seen in omega arith); same = taken.same; lower = taken.lower; first = taken.first },
+        one_more (λ (i : ℕ). height (size_no s i) < h → NoWorse (held b.1) (size_no s i)) k known.seen.1 here,
+      );
     }
 
--- The next size is lower than h and narrower than the best.
-module _ (s : List Item) (h : ℕ) (best z : Item) (place k : ℕ) (known : Best s h best place k) (more : k < length s) (here : z ≡ size_no s k) (low : z.m < h) (test : narrower z best ≡ true) where
-  better : Narrower z best
-  better = narrower_true z best test
+-- The next size is lower than h.
+module _ (s : List Item) (h : ℕ) (z : Size) (k : ℕ) (more : k < length s) (here : held z ≡ size_no s k) (low : z.height < h) where
+  itself : height (size_no s k) < h → NoWorse (held z) (size_no s k)
+  itself lower = subst (NoWorse (held z)) here (record { no_wider = omega arith; not_taller = λ same. omega arith })
 
-  -- It is no worse than what the best is no worse than.
-  still : (y : Item) → NoWorse best y → NoWorse z y
-  still y worse =
-      record {
-        no_wider = omega (arith, better.no_wider, worse.no_wider);
-        not_taller = λ same.
-            let wide = better.no_wider in
-            let first = better.lower (omega arith) in
-            let second = worse.not_taller (omega arith) in
-            omega arith;
-      }
-
-  -- No equal size was looked at before: the best would be no worse than it.
-  fresh : (i : ℕ) → i < k → size_no s i ≡ z → ⊥
-  fresh i less same =
-      let m_same = ap height same in
-      let p_same = ap width same in
-      let worse = known.best_of i less (omega arith) in
-      let wide = better.no_wider in
-      let first = better.lower (omega arith) in
-      let second = worse.not_taller (omega arith) in
-      omega arith
-
-  took : Best s h z k (k + 1)
-  took =
+  took : ((i : ℕ) → i < k → size_no s i ≡ held z → ⊥) → BestOf s h k (held z) → Best s h (Some (k, z)) (k + 1)
+  took fresh still =
       record {
         inside = omega arith;
-        to_end = omega arith;
-        best_of = best_more s h k z (λ i less lower. still (size_no s i) (known.best_of i less lower))
-            (λ lower. subst (NoWorse z) here (record { no_wider = omega arith; not_taller = λ same. omega arith }));
-        some = λ inside. record { seen = omega arith; same = here; lower = low; first = fresh };
-        none = λ over. absurd (omega arith);
+        seen = (
+          record { seen = omega arith; same = here; lower = low; first = fresh },
+          one_more (λ (i : ℕ). height (size_no s i) < h → NoWorse (held z) (size_no s i)) k still itself,
+        );
       }
 
+  -- It is the first that is,
+  took_first : Best s h None k → Best s h (Some (k, z)) (k + 1)
+  took_first known =
+      took (λ i less same. let m_same = ap height same in known.seen i less (omega arith))
+      (λ i less lower. absurd (known.seen i less lower))
+
+  -- or it is narrower than the best.
+  module _ (b : ℕ × Size) (known : Best s h (Some b) k) (test : narrower (held z) (held b.1) ≡ true) where
+    better : Narrower (held z) (held b.1)
+    better = narrower_true (held z) (held b.1) test
+
+    -- It is no worse than what the best is no worse than.
+    still : (y : Item) → NoWorse (held b.1) y → NoWorse (held z) y
+    still y worse =
+        record {
+          no_wider = omega (arith, better.no_wider, worse.no_wider);
+          not_taller = λ same.
+              let wide = better.no_wider in
+              let first = better.lower (omega arith) in
+              let second = worse.not_taller (omega arith) in
+              omega arith;
+        }
+
+    -- No equal size was looked at before: the best would be no worse than it.
+    fresh : (i : ℕ) → i < k → size_no s i ≡ held z → ⊥
+    fresh i less same =
+        let m_same = ap height same in
+        let p_same = ap width same in
+        let worse = known.seen.1 i less (omega arith) in
+        let wide = better.no_wider in
+        let first = better.lower (omega arith) in
+        let second = worse.not_taller (omega arith) in
+        omega arith
+
+    took_narrower : Best s h (Some (k, z)) (k + 1)
+    took_narrower = took fresh (λ i less lower. still (size_no s i) (known.seen.1 i less lower))
+
 -- All sizes are looked at: the size that is taken is the narrowest of all that are lower.
-found : (s : List Item) (h : ℕ) (best : Item) (place k : ℕ) → Best s h best place k → ((i : ℕ) → i < length s → i < k) → place < length s → Narrowest s h place
-found s h best place k known seen inside =
-    let taken = known.some inside in
+found : (s : List Item) (h k : ℕ) (b : ℕ × Size) → Best s h (Some b) k → length s ≤ k → Narrowest s h b.0
+found s h k b known done =
+    let taken = known.seen.0 in
     let m_same = ap height taken.same in
     let p_same = ap width taken.same in
+    let seen = taken.seen in
+    let inside = known.inside in
     record {
-      inside = inside;
+      inside = omega arith;
       lower = omega (arith, taken.lower);
-      narrowest = λ i less low. omega (arith, (known.best_of i (seen i less) low).no_wider);
-      lowest = λ i less low same. let worse = (known.best_of i (seen i less) low).not_taller (omega arith) in omega arith;
+      narrowest = λ i less low. omega (arith, (known.seen.1 i (omega arith) low).no_wider);
+      lowest = λ i less low same. let worse = (known.seen.1 i (omega arith) low).not_taller (omega arith) in omega arith;
       first = λ i less same. taken.first i less (same ∙ sym taken.same);
     }
 
@@ -120,45 +144,32 @@ module _ (bytes : List ℕ) (count h : ℕ) where
   as_many : length s ≡ count
   as_many = in_length count bytes
 
-  pub none_seen : Best s h (size 65_536 65_536) count 0
-  none_seen =
-      record {
-        inside = omega arith;
-        to_end = omega (arith, as_many);
-        best_of = λ i less. absurd (omega arith);
-        some = λ inside. absurd (omega (arith, as_many));
-        none = λ over. refl;
-      }
+  pub none_seen : Best s h None 0
+  none_seen = record { inside = omega arith; seen = λ i less. absurd (omega arith) }
 
-  module _ (best z best' : Size) (place k place' : ℕ) (known : Best s h (held best) place k) (more : k < count) (read : SizeIn bytes k z) where
+  module _ (z : Size) (k : ℕ) (more : k < count) (read : SizeIn bytes k z) where
     here : held z ≡ size_no s k
     here = read.same count more
 
-    pub seen_better : (b : Bool) → z.height < h → b ≡ narrower (held z) (held best) → b ≡ true → best' ≡ z → place' ≡ k → Best s h (held best') place' (k + 1)
-    seen_better b low test holds e f =
-        rw (e, f) (took s h _ _ place k known (omega (arith, as_many)) here low (sym test ∙ holds))
+    pub seen_better : (best : Option (ℕ × Size)) (t : Bool) (P : ℕ × Size → Type 0) → Best s h best k → z.height < h → MatchOption best (t ≡ true) P → ((b : ℕ × Size) → P b → t ≡ narrower (held z) (held b.1)) → t ≡ true → Best s h (Some (k, z)) (k + 1)
+    seen_better None t P known low test says holds = took_first s h z k (omega (arith, as_many)) here low known
+    seen_better (Some b) t P known low test says holds = took_narrower s h z k (omega (arith, as_many)) here low b known (sym (says b test) ∙ holds)
 
-    stays : (height (size_no s k) < h → NoWorse (held best) (size_no s k)) → best' ≡ best → place' ≡ place → Best s h (held best') place' (k + 1)
-    stays worse e f = rw (e, f) (passed s h _ place k known (omega (arith, as_many)) worse)
+    pub seen_tall : (best : Option (ℕ × Size)) → Best s h best k → h ≤ z.height → Best s h best (k + 1)
+    seen_tall None known tall = passed s h None k known (omega (arith, as_many)) (λ low. let same = ap height here in omega arith)
+    seen_tall (Some b) known tall =
+        passed s h (Some b) k known (omega (arith, as_many)) (λ low. let same = ap height here in absurd (omega arith))
 
-    pub seen_tall : h ≤ z.height → best' ≡ best → place' ≡ place → Best s h (held best') place' (k + 1)
-    seen_tall tall = stays (λ low. let same = ap height here in absurd (omega arith))
+    pub seen_worse : (best : Option (ℕ × Size)) (t : Bool) (P : ℕ × Size → Type 0) → Best s h best k → MatchOption best (t ≡ true) P → ((b : ℕ × Size) → P b → t ≡ narrower (held z) (held b.1)) → t ≡ false → Best s h best (k + 1)
+    seen_worse None t P known test says fails = absurd (true≢false (sym test ∙ fails))
+    seen_worse (Some b) t P known test says fails =
+        passed s h (Some b) k known (omega (arith, as_many))
+        (λ low. subst (NoWorse (held b.1)) here (narrower_false (held z) (held b.1) (sym (says b test) ∙ fails)))
 
-    pub seen_worse : (b : Bool) → b ≡ narrower (held z) (held best) → b ≡ false → best' ≡ best → place' ≡ place → Best s h (held best') place' (k + 1)
-    seen_worse b test fails = stays (λ low. subst (NoWorse _) here (narrower_false _ _ (sym test ∙ fails)))
-
-  -- Where none is taken, none is lower: it would be narrower than the best.
-  none_lower : (best : Item) (place k : ℕ) → Bytes bytes → Best s h best place k → count ≤ k → length s ≤ place → (i : ℕ) → i < length s → height (size_no s i) < h → ⊥
-  none_lower best place k fit known done over i less low =
-      let worse = known.best_of i (omega (arith, as_many)) low in
-      let above = known.none over in
-      let fits = sizes_fit count bytes fit i (omega (arith, as_many)) in
-      omega arith
-
-  pub all_seen : (best : Item) (place k : ℕ) → Bytes bytes → Best s h best place k → count ≤ k → NextBelow s h place
-  all_seen best place k fit known done =
-      record {
-        to_end = known.to_end;
-        next = found s h best place k known (λ i less. omega (arith, as_many));
-        none = λ over i less. let high = none_lower best place k fit known done over i less in omega arith;
-      }
+  pub all_seen : (best : Option (ℕ × Size)) (k : ℕ) (r : Option ℕ) (P : ℕ × Size → Type 0) → Best s h best k → count ≤ k → MatchOption best (r ≡ None) P → ((b : ℕ × Size) → P b → r ≡ Some b.0) → NextBelow s h r
+  all_seen None k r P known done e says = rw e (λ i less. lower_no (ltb (height (size_no s i)) h) i refl less)
+    where
+      lower_no : (t : Bool) (i : ℕ) → ltb (height (size_no s i)) h ≡ t → i < length s → h ≤ height (size_no s i)
+      lower_no true i e less = absurd (known.seen i (omega (arith, as_many)) (ltb-true _ h e))
+      lower_no false i e less = ltb-false _ h e
+  all_seen (Some b) k r P known done e says = rw (says b e) (found s h k b known (omega (arith, as_many)))

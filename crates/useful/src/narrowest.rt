@@ -8,37 +8,29 @@ ghost use Rattle.useful.specs.inside.Narrowest.{narrower, NextBelow};
 
 use sizes::{Size, size_in};
 
-// Above every height and width of two bytes.
+// Above every height of two bytes.
 const ABOVE: u32 = 65536;
 
 // Whether z is narrower than the other size, or as wide and lower.
 fn is_narrower(z: Size, than: Size) -> bool
     ensures { result ≡ narrower (size z.height z.width) (size than.height than.width) }
 {
-    z.width < than.width || (z.width == than.width && z.height < than.height)
+    (z.width, z.height) < (than.width, than.height)
 }
 
-// The place of the narrowest size that is lower than a height, of equal width of the lowest, of equal pairs of the first;
-// the place behind all sizes where none is lower.
-fn narrowest_below(sizes: &[u8], count: usize, height: u32) -> usize
+// The place of the narrowest size that is lower than a height, of equal width of the lowest, of equal pairs of the first.
+fn narrowest_below(sizes: &[u8], count: usize, height: u32) -> Option<usize>
     requires { GaugeBytes count sizes.now }
     ensures { NextBelow (sizes_in count sizes.now) height result }
 {
-    let mut best = Size {
-        height: ABOVE,
-        width: ABOVE,
-    };
-    let mut place = count;
-    let mut k = 0;
-    while k < count {
+    let mut best: Option<(usize, Size)> = None;
+    for k in 0..count {
         let z = size_in(sizes, k);
-        if z.height < height && is_narrower(z, best) {
-            best = z;
-            place = k;
+        if z.height < height && best.is_none_or(|(_, narrowest)| is_narrower(z, narrowest)) {
+            best = Some((k, z));
         }
-        k += 1;
     }
-    place
+    best.map(|(k, _)| k)
 }
 
 // The word of a gauge's list, digit by digit from the highest size of the list to the lowest.
@@ -48,12 +40,9 @@ pub fn narrowest_first(sizes: &[u8], count: usize) -> u32
 {
     let mut word = 0;
     let mut height = ABOVE;
-    let mut k = narrowest_below(sizes, count, height);
-    while k < count {
+    while let Some(k) = narrowest_below(sizes, count, height) {
         word = 16 * word + (k as u32 + 1);
-        let z = size_in(sizes, k);
-        height = z.height;
-        k = narrowest_below(sizes, count, height);
+        height = size_in(sizes, k).height;
     }
     word
 }

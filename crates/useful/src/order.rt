@@ -23,9 +23,10 @@ pub fn order(sizes: &[u8], count: usize) -> u32
     ensures { result ≡ order_word (sizes_in count sizes.now) }
 {
     if stand_in_order(sizes, count) {
-        return in_order(count);
+        in_order(count)
+    } else {
+        narrowest_first(sizes, count)
     }
-    narrowest_first(sizes, count)
 }
 
 // The number within the gauge of the size at a place of its list of `count` items.

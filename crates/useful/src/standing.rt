@@ -12,14 +12,12 @@ pub fn stand_in_order(sizes: &[u8], count: usize) -> bool
     ensures { result ≡ true → Ordered (sizes_in count sizes.now) }
 {
     let mut before = size_in(sizes, 0);
-    let mut k = 1;
-    while k < count {
+    for k in 1..count {
         let z = size_in(sizes, k);
         if before.height <= z.height || z.width <= before.width {
             return false;
         }
         before = z;
-        k += 1;
     }
     true
 }

@@ -1,5 +1,5 @@
 -- The next size of a gauge's list: of the sizes that are lower than a height, the narrowest. No public contract cites it.
-use Rattle.std.specs.Prelude.{◌≡◌, Bool, ◌&&◌, ◌||◌, List, ℕ, ◌≤◌, ◌<◌, length, get_or, ltb, eqb}
+use Rattle.std.specs.Prelude.{◌≡◌, Bool, ◌&&◌, ◌||◌, List, ℕ, ◌≤◌, ◌<◌, length, get_or, ltb, eqb, Option, Some, None}
 use Rattle.slicing.specs.Item.{Item, size, height, width}
 
 -- The size at a place, counted from 0.
@@ -18,8 +18,7 @@ pub record Narrowest (s : List Item) (h k : ℕ) : Type 0 where
   pub lowest : (i : ℕ) → i < length s → height (size_no s i) < h → width (size_no s i) ≡ width (size_no s k) → height (size_no s k) ≤ height (size_no s i)
   pub first : (i : ℕ) → i < k → size_no s i ≡ size_no s k → ⊥
 
--- The place k is that of the narrowest size lower than h; where no size is lower, it is behind all places.
-pub record NextBelow (s : List Item) (h k : ℕ) : Type 0 where
-  pub to_end : k ≤ length s
-  pub next : k < length s → Narrowest s h k
-  pub none : length s ≤ k → (i : ℕ) → i < length s → h ≤ height (size_no s i)
+-- The place of the narrowest size lower than h, where a size is lower.
+abbrev pub NextBelow : List Item → ℕ → Option ℕ → Type 0
+NextBelow s h None = (i : ℕ) → i < length s → h ≤ height (size_no s i)
+NextBelow s h (Some k) = Narrowest s h k

@@ -1,9 +1,9 @@
 -- `useful::narrowest::narrowest_below` meets its contract: the place of the next size of the list.
--- The loop keeps `Best`, the narrowest of the sizes that it has looked at; the measure is what is left of the count.
-use borrow.Author.Rules.{rules}
+-- The loop keeps `Best`, the narrowest of the sizes that it has looked at.
+use Rattle.std.proofs.Common.{rules, tests}
 use Rattle.useful.proofs.NarrowestSeen.{none_seen, seen_better, seen_tall, seen_worse, all_seen}
 use Rattle.useful.proofs.narrowest.narrowest_below.Goals as goal
-use Rattle.useful.proofs.narrowest.narrowest_below.Goals.{then-z-height+then-is_narrower, else-z-height, else-z-height-via-then-z-height+else-is_narrower, else-z-height-via-else-z-height}
+use Rattle.useful.proofs.narrowest.narrowest_below.Goals.{then-z-height+then-is_none_or, else-z-height, else-z-height-via-then-z-height+else-is_none_or, else-z-height-via-else-z-height}
 
 pub loop-k-init : goal.loop-k-init
 loop-k-init c = search (rules, none_seen)
@@ -14,16 +14,16 @@ loop-k-preserved c =
     let more = c.loop-k-test.true in
     let read = c.size_in-z.ensures in
     elim c.if-z-height.branch [
-      | then-z-height+then-is_narrower w ↦
-          seen_better _ _ _ _ _ _ _ _ _ known more read _ w.if-z-height.true w.is_narrower.ensures w.if-is_narrower.true w.best-is w.place-is
+      | then-z-height+then-is_none_or w ↦
+          rw w.best-is (seen_better _ _ _ _ _ more read _ _ _ known w.if-z-height.true w.is_none_or.ensures (λ b e. search (rules, tests)) w.if-is_none_or.true)
       | else-z-height w ↦
           elim w.else-z-height.branch [
-            | else-z-height-via-then-z-height+else-is_narrower v ↦
-                seen_worse _ _ _ _ _ _ _ _ _ known more read _ v.is_narrower.ensures v.if-is_narrower.false w.best-is w.place-is
-            | else-z-height-via-else-z-height v ↦ seen_tall _ _ _ _ _ _ _ _ _ known more read v.if-z-height.false w.best-is w.place-is
+            | else-z-height-via-then-z-height+else-is_none_or v ↦
+                rw w.best-is (seen_worse _ _ _ _ _ more read _ _ _ known v.is_none_or.ensures (λ b e. search (rules, tests)) v.if-is_none_or.false)
+            | else-z-height-via-else-z-height v ↦ rw w.best-is (seen_tall _ _ _ _ _ more read _ known v.if-z-height.false)
           ]
     ]
 
 pub returns : goal.returns
 returns c =
-    all_seen _ _ _ _ _ _ (λ i. (c.shared_slice_known-1.given i).fits) c.loop-k.invariant c.loop-k-test.false
+    all_seen _ _ _ _ _ _ _ c.loop-k.invariant c.loop-k-test.false c.map.ensures.cases (λ b e. search (rules, tests))

@@ -1,30 +1,45 @@
 -- `useful::narrowest::narrowest_first` meets its contract: the word of the gauge's list.
 -- The loop keeps `SoFar`, the word of the items that are not lower than the height; the measure is the height, which falls.
-use borrow.Author.Rules.{rules}
 use Prim.Native.Nat.{◌<◌}
 use native.Mathlib.Omega.{arith}
-use Rattle.useful.proofs.ListSoFar.{none_yet, all_listed, digit_fits, falls, one_more}
+use Rattle.useful.proofs.ListSoFar.{none_yet, all_listed, place_inside, digit_fits, falls, one_more}
 use Rattle.useful.proofs.narrowest.narrowest_first.Goals as goal
 
 pub loop-k-init : goal.loop-k-init
-loop-k-init c =
-    none_yet _ _ _ (λ i. (c.shared_slice_known-1.given i).fits) c.requires c.narrowest_below-k.ensures
+loop-k-init c = none_yet _ _ (λ i. (c.type_inv.sizes i).fits) c.requires
 
 pub overflow_mul-word : goal.overflow_mul-word
 overflow_mul-word c =
-    let low : c.loop-k.word < 268_435_456 = digit_fits _ _ _ _ _ c.loop-k.invariant c.loop-k-test.true in
+    let low : c.loop-k.word < 268_435_456 = digit_fits _ _ _ _ _ c.loop-k.invariant c.in-Some.ensures in
     omega (arith, low)
 
-pub overflow_add-word-in-loop-k : goal.overflow_add-word-in-loop-k
-overflow_add-word-in-loop-k c =
-    let low : c.loop-k.word < 268_435_456 = digit_fits _ _ _ _ _ c.loop-k.invariant c.loop-k-test.true in
+pub overflow_cast-word : goal.overflow_cast-word
+overflow_cast-word c =
+    let inside : c.in-Some.k < c.args.count = place_inside _ _ _ _ _ c.loop-k.invariant c.in-Some.ensures in
+    let few = c.requires.few in
+    omega arith
+
+pub overflow_add-word : goal.overflow_add-word
+overflow_add-word c =
+    let inside : c.in-Some.k < c.args.count = place_inside _ _ _ _ _ c.loop-k.invariant c.in-Some.ensures in
+    let few = c.requires.few in
+    omega arith
+
+pub overflow_add-word-in-Some : goal.overflow_add-word-in-Some
+overflow_add-word-in-Some c =
+    let low : c.loop-k.word < 268_435_456 = digit_fits _ _ _ _ _ c.loop-k.invariant c.in-Some.ensures in
+    let inside : c.in-Some.k < c.args.count = place_inside _ _ _ _ _ c.loop-k.invariant c.in-Some.ensures in
+    let few = c.requires.few in
     omega (arith, low)
+
+pub size_in-height-requires : goal.size_in-height-requires
+size_in-height-requires c = (_, c.requires.sized, place_inside _ _ _ _ _ c.loop-k.invariant c.in-Some.ensures)
 
 pub loop-k-smaller : goal.loop-k-smaller
-loop-k-smaller c = search (rules, falls)
+loop-k-smaller c = falls _ _ _ _ _ c.loop-k.invariant c.in-Some.ensures _ c.size_in-height.ensures
 
 pub loop-k-preserved : goal.loop-k-preserved
-loop-k-preserved c = search (rules, one_more)
+loop-k-preserved c = one_more _ _ _ _ _ c.loop-k.invariant c.in-Some.ensures _ c.size_in-height.ensures
 
 pub returns : goal.returns
-returns c = search (rules, all_listed)
+returns c = all_listed _ _ _ _ c.loop-k.invariant c.in_default.ensures

@@ -5,7 +5,7 @@ use Rattle.useful.proofs.ListSoFar.{SoFar}
 use Rattle.useful.proofs.narrowest.narrowest_first.Given as goal
 
 abbrev pub invariant-loop-k : goal.invariant-loop-k
-invariant-loop-k l = SoFar (sizes_in l.count l.sizes) l.word l.height l.k
+invariant-loop-k l = SoFar (sizes_in l.count l.sizes) l.word l.height
 
 abbrev pub decreases-loop-k : goal.decreases-loop-k
 decreases-loop-k l = l.height

@@ -1,5 +1,5 @@
 -- `useful::standing::stand_in_order` meets its contract.
--- The loop keeps `Standing`, that the sizes so far stand in order; the measure is what is left of the count.
+-- The loop keeps `Standing`, that the sizes so far stand in order.
 use borrow.Author.Rules.{rules}
 use mathlib.Core.Bool.{false≢true}
 use Rattle.useful.proofs.Neighbours.{first_stands, next_stands, all_stand}
