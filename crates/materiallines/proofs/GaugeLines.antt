@@ -1,75 +1,96 @@
 -- What the loop that writes a line for each gauge keeps: the lines of the gauges left complete the lines of all.
--- A turn appends the line of the first gauge left, and at the end no gauge is left.
+-- A turn writes the line of the first gauge left, and at the end no gauge is left.
 use mathlib.Core.Path.{◌≡◌, sym, ap, subst, ◌∙◌}
-use mathlib.Core.List.{List, ◌++◌}
-use Prim.Native.Nat.{ℕ, ◌+◌, ◌/◌, ◌^◌, ◌≤◌, ◌<◌}
+use mathlib.Core.List.{List, ◌∷◌, ◌++◌}
+use Prim.Native.Nat.{ℕ, ◌+◌, ◌^◌, ◌≤◌, ◌<◌}
 use native.Mathlib.Omega.{arith}
-use lib.ListN.{length, drop, drop_of_length-le}
-use Rattle.text.specs.inside.Appending.{Appended}
-use Rattle.text.proofs.Dues.{Due, due_start, due_room, due_more, due_done}
+use lib.ListN.{length, get_or}
+use Rattle.std.specs.declared.slice.ChunksExact.{ChunksExact}
+use Rattle.std.specs.Slice.Iter.{chunks_exact_rest, chunks_exact_size}
+use Rattle.text.specs.declared.page.Page.{Page}
+use Rattle.text.specs.inside.Writing.{Fits, Wrote}
+use Rattle.text.proofs.Dues.{Due, due_start, due_fits, due_more, due_done}
 use Rattle.slicing.specs.Item.{Item, height, width}
 use Rattle.slicing.specs.Fit.{area}
 use Rattle.materiallines.specs.Lines.{gauge_line, gauge_lines}
-use Rattle.materiallines.specs.inside.Listing.{size_at, Holds, Sized, Listable}
-use Rattle.materiallines.proofs.SheetFits.{lines_most}
-use Rattle.materiallines.proofs.HeldWords.{holds_same}
-use Rattle.materiallines.proofs.GaugeWords.{wide_at, high_at, area_at, width_same, height_same, area_fits, first_left}
+use Rattle.materiallines.specs.inside.Listing.{Holds, Sized, Listable}
+use Rattle.materiallines.proofs.SheetFits.{AllLimited, limited_later, area_most}
+use Rattle.materiallines.proofs.HeldWords.{holds_same, none_held, First, first_held}
+use Rattle.materiallines.proofs.AreaSums.{area_of}
 
--- k gauges are written.
-pub record GaugesDue (old layout text : List ℕ) (next k : ℕ) : Type 0 where
+-- The words left hold sizes, of gauges from a number on, whose lines complete those of all.
+pub record GaugesDue (old : Page ℕ) (layout : List ℕ) (left : ChunksExact ℕ) (number : ℕ) (now : Page ℕ) : Type 0 where
+  pub five : chunks_exact_size left ≡ 5
   pub sized : Sized layout
-  pub due : Due old 0 (gauge_lines 1 sized.sizes) (gauge_lines (k + 1) (drop k sized.sizes)) text next
+  pub sizes : List Item
+  pub held : Holds (chunks_exact_rest left) sizes
+  pub limited : AllLimited sizes
+  pub counted : number + length sizes ≤ 65
+  pub due : Due old (gauge_lines 1 sized.sizes) (gauge_lines number sizes) now
 
-pub gauges_start : (old layout : List ℕ) → Listable layout (length old) → GaugesDue old layout old 0 0
-gauges_start old layout h =
-    let few = h.sized.few in
-    let room = h.room in
-    let most = lines_most 1 h.sized.sizes (omega arith) h.sized.limited in
-    record { sized = h.sized; due = due_start old 0 (gauge_lines 1 h.sized.sizes) (omega arith) }
+pub gauges_start : (old : Page ℕ) (layout : List ℕ) (left : ChunksExact ℕ) → chunks_exact_size left ≡ 5 → chunks_exact_rest left ≡ layout → Listable old layout → GaugesDue old layout left 1 old
+gauges_start old layout left five all h =
+    record {
+      five = five;
+      sized = h.sized;
+      sizes = h.sized.sizes;
+      held = subst (λ (l : List ℕ). Holds l h.sized.sizes) (sym all) h.sized.held;
+      limited = h.sized.limited;
+      counted = omega (arith, h.sized.few);
+      due = due_start old (gauge_lines 1 h.sized.sizes) h.room;
+    }
 
--- The line of the gauge after k others.
-abbrev pub line_at : List ℕ → ℕ → List ℕ
-line_at layout k = gauge_line (k + 1) (wide_at layout k) (high_at layout k) (area_at layout k)
+-- The line of a gauge of five words.
+abbrev pub line_of : ℕ → List ℕ → List ℕ
+line_of number words = gauge_line number (get_or words 3 0) (get_or words 4 0) (area_of words)
 
-module _ (old layout text : List ℕ) (next k : ℕ) (s : GaugesDue old layout text next k) where
-  abbrev sizes : List Item
-  sizes = s.sized.sizes
+module _ (old : Page ℕ) (layout : List ℕ) (left : ChunksExact ℕ) (number : ℕ) (now : Page ℕ) (s : GaugesDue old layout left number now) where
+  module _ (words : List ℕ) (then : ChunksExact ℕ) (size : chunks_exact_size then ≡ chunks_exact_size left) (next : chunks_exact_rest left ≡ words ++ chunks_exact_rest then) (long : length words ≡ chunks_exact_size left) where
+    first : First words (chunks_exact_rest then) s.sizes
+    first =
+        first_held words (chunks_exact_rest then) s.sizes (long ∙ s.five) (subst (λ (l : List ℕ). Holds l s.sizes) next s.held)
 
-  module _ (more : k < length layout / 5) where
-    inside : k < length sizes
-    inside = omega (arith, s.sized.held.long)
+    all_limited : AllLimited (first.size ∷ first.more)
+    all_limited = subst AllLimited first.same s.limited
 
-    line_same : line_at layout k ≡ gauge_line (k + 1) (width (size_at sizes k)) (height (size_at sizes k)) (area (size_at sizes k))
-    line_same = cc (width_same layout s.sized k inside, height_same layout s.sized k inside)
+    line_same : gauge_line number (width first.size) (height first.size) (area first.size) ≡ line_of number words
+    line_same = cc (first.wide, first.high)
 
-    next_due : Due old 0 (gauge_lines 1 sizes) (line_at layout k ++ gauge_lines (k + 1 + 1) (drop (k + 1) sizes)) text next
+    next_due : Due old (gauge_lines 1 s.sized.sizes) (line_of number words ++ gauge_lines (number + 1) first.more) now
     unfolding gauge_lines
-    next_due = subst (λ (l : List ℕ). Due old 0 (gauge_lines 1 sizes) l text next) first s.due
-      where
-        first : gauge_lines (k + 1) (drop k sizes) ≡ line_at layout k ++ gauge_lines (k + 1 + 1) (drop (k + 1) sizes)
-        first =
-            ap (gauge_lines (k + 1)) (first_left layout s.sized k inside)
-            ∙ ap (λ (l : List ℕ). l ++ gauge_lines (k + 1 + 1) (drop (k + 1) sizes)) (sym line_same)
+    next_due =
+        subst (λ (l : List ℕ). Due old (gauge_lines 1 s.sized.sizes) l now)
+        (ap (gauge_lines number) first.same ∙ ap (λ (l : List ℕ). l ++ gauge_lines (number + 1) first.more) line_same) s.due
 
-    pub gauges_area : area_at layout k < 2 ^ 32
-    gauges_area = area_fits layout s.sized k inside
+    pub gauges_area : area_of words < 2 ^ 32
+    gauges_area =
+        let same : area_of words ≡ area first.size = cc (first.wide, first.high) in
+        omega (arith, area_most first.size (all_limited 0 (omega arith)))
 
-    pub gauges_room : next + length (line_at layout k) ≤ length text
-    gauges_room = due_room old 0 (gauge_lines 1 sizes) (line_at layout k) (gauge_lines (k + 1 + 1) (drop (k + 1) sizes)) text next next_due
+    pub gauges_fit : Fits now (line_of number words)
+    gauges_fit =
+        due_fits old (gauge_lines 1 s.sized.sizes) (line_of number words) (gauge_lines (number + 1) first.more) now next_due
 
-    pub gauges_more : (new : List ℕ) (r : ℕ) → Appended text next (line_at layout k) new r → GaugesDue old layout new r (k + 1)
-    gauges_more new r t =
+    pub number_few : number ≤ 64
+    number_few = let few = s.counted in let some = ap length first.same in omega arith
+
+    pub gauges_more : (new : Page ℕ) → Wrote now (line_of number words) new → GaugesDue old layout then (number + 1) new
+    gauges_more new t =
         record {
+          five = size ∙ s.five;
           sized = s.sized;
-          due = due_more old 0 (gauge_lines 1 sizes) (line_at layout k) (gauge_lines (k + 1 + 1) (drop (k + 1) sizes)) text next next_due new r t;
+          sizes = first.more;
+          held = first.held;
+          limited = limited_later first.size first.more all_limited;
+          counted = let few = s.counted in let some = ap length first.same in omega arith;
+          due = due_more old (gauge_lines 1 s.sized.sizes) (line_of number words) (gauge_lines (number + 1) first.more) now next_due new t;
         }
 
-  pub gauges_done : length layout / 5 ≤ k → (l : List Item) → Holds layout l → Appended old 0 (gauge_lines 1 l) text next
+  pub gauges_done : length (chunks_exact_rest left) < chunks_exact_size left → (l : List Item) → Holds layout l → Wrote old (gauge_lines 1 l) now
   unfolding gauge_lines
   gauges_done end l held =
-      let long = s.sized.held.long in
-      let ends : length sizes ≤ k = omega arith in
-      let none = drop_of_length-le sizes ends in
-      let due = subst (λ (rest : List Item). Due old 0 (gauge_lines 1 sizes) (gauge_lines (k + 1) rest) text next) none s.due in
-      subst (λ (all : List Item). Appended old 0 (gauge_lines 1 all) text next) (holds_same layout sizes l s.sized.held held)
-      (due_done old 0 (gauge_lines 1 sizes) text next due)
+      let five = s.five in
+      let none = none_held (chunks_exact_rest left) s.sizes (omega arith) s.held in
+      let due = subst (λ (rest : List Item). Due old (gauge_lines 1 s.sized.sizes) (gauge_lines number rest) now) none s.due in
+      subst (λ (all : List Item). Wrote old (gauge_lines 1 all) now) (holds_same layout s.sized.sizes l s.sized.held held)
+      (due_done old (gauge_lines 1 s.sized.sizes) now due)

@@ -2,9 +2,9 @@
 -- The words say each size, and the words and the sizes of a join are those of its two parts one after the other.
 use mathlib.Core.Path.{◌≡◌, refl, sym, ap, ap₂, ◌∙◌}
 use mathlib.Core.List.Memᴰ
-use mathlib.Core.List.{List, ◌++◌, Memᴰ}
+use mathlib.Core.List.{List, [], ◌∷◌, ◌++◌, Memᴰ}
 use mathlib.Core.Logic.{⊎_elim}
-use Prim.Native.Nat.{ℕ, ◌+◌, ◌*◌, ◌-◌, ◌<◌}
+use Prim.Native.Nat.{ℕ, suc, ◌+◌, ◌*◌, ◌-◌, ◌<◌}
 use native.Mathlib.Omega.{arith}
 use lib.ListN.{length, get_or, length-append, get_or-append}
 use lib.Seq.{get_or-append-add, ext_get_or}
@@ -26,6 +26,48 @@ holds_same layout k l first second =
     let long : length k ≡ length l = omega (arith, first.long, second.long) in
     ext_get_or (size 0 0) k l long
     (λ i less. ap₂ size (sym (first.high i less) ∙ second.high i (omega arith)) (sym (first.wide i less) ∙ second.wide i (omega arith)))
+
+-- Five words and a rest hold a size, with their last two, and the sizes that the rest holds.
+pub record First (words rest : List ℕ) (sizes : List Item) : Type 0 where
+  pub size : Item
+  pub more : List Item
+  pub same : sizes ≡ size ∷ more
+  pub wide : get_or words 3 0 ≡ width size
+  pub high : get_or words 4 0 ≡ height size
+  pub held : Holds rest more
+
+pub first_held : (words rest : List ℕ) (sizes : List Item) → length words ≡ 5 → Holds (words ++ rest) sizes → First words rest sizes
+first_held (a ∷ b ∷ c ∷ d ∷ e ∷ []) rest (z ∷ sizes) five h =
+    record {
+      size = z;
+      more = sizes;
+      same = refl;
+      wide = h.wide 0 (omega arith);
+      high = h.high 0 (omega arith);
+      held =
+          record {
+            long = omega (arith, h.long);
+            wide = λ i less. later 3 i ∙ h.wide (suc i) (omega arith);
+            high = λ i less. later 4 i ∙ h.high (suc i) (omega arith);
+          };
+    }
+  where
+    later : (w i : ℕ) → get_or rest (5 * i + w) 0 ≡ get_or (a ∷ b ∷ c ∷ d ∷ e ∷ rest) (5 * suc i + w) 0
+    later w i =
+        let place : suc (suc (suc (suc (suc (5 * i + w))))) ≡ 5 * suc i + w = omega arith in
+        ap (λ (n : ℕ). get_or (a ∷ b ∷ c ∷ d ∷ e ∷ rest) n 0) place
+first_held (a ∷ b ∷ c ∷ d ∷ e ∷ []) rest [] five h = absurd (let long = h.long in omega arith)
+first_held [] rest sizes five h = absurd (omega arith)
+first_held (a ∷ []) rest sizes five h = absurd (omega arith)
+first_held (a ∷ b ∷ []) rest sizes five h = absurd (omega arith)
+first_held (a ∷ b ∷ c ∷ []) rest sizes five h = absurd (omega arith)
+first_held (a ∷ b ∷ c ∷ d ∷ []) rest sizes five h = absurd (omega arith)
+first_held (a ∷ b ∷ c ∷ d ∷ e ∷ f ∷ words) rest sizes five h = absurd (omega arith)
+
+-- Fewer words hold no size.
+pub none_held : (words : List ℕ) (sizes : List Item) → length words < 5 → Holds words sizes → sizes ≡ []
+none_held words [] few h = refl
+none_held words (z ∷ sizes) few h = absurd (let long = h.long in omega arith)
 
 -- One word of each five is a length of the size.
 abbrev Says : ℕ → (Item → ℕ) → List ℕ → List Item → Type 0

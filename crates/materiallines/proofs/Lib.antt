@@ -1,7 +1,6 @@
 pub mod LineLaws
 pub mod SheetFits
 pub mod HeldWords
-pub mod GaugeWords
 pub mod GaugeLines
 pub mod AreaSums
 pub mod SheetParts

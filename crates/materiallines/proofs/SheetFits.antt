@@ -20,7 +20,7 @@ use Rattle.materiallines.proofs.LineLaws.{gauge_length}
 abbrev pub AllLimited : List Item → Type 0
 AllLimited sizes = (i : ℕ) → i < length sizes → Limited (size_at sizes i)
 
-limited_later : (z : Item) (sizes : List Item) → AllLimited (z ∷ sizes) → AllLimited sizes
+pub limited_later : (z : Item) (sizes : List Item) → AllLimited (z ∷ sizes) → AllLimited sizes
 limited_later z sizes h i less = h (suc i) (omega arith)
 
 pub area_most : (z : Item) → Limited z → area z ≤ 1_000_000

@@ -1,15 +1,16 @@
--- The lines of the gauges and the last three lines, appended in turn from the buffer's start, are the text of the sheet.
+-- The lines of the gauges and the last three lines, written in turn on a new page, are the text of the sheet.
 -- All of them fit by `sheet_fits`, and what is used and what is not add up to the face.
-use mathlib.Core.Path.{◌≡◌, ap₂, subst}
+use mathlib.Core.Path.{◌≡◌, sym, ap, ap₂, subst}
 use mathlib.Core.List.{List, ◌++◌}
 use Prim.Native.Nat.{ℕ, ◌+◌, ◌-◌, ◌^◌, ◌≤◌, ◌<◌}
 use native.Mathlib.Omega.{arith}
 use lib.ListN.{length}
+use Rattle.std.specs.Borrow.{MutBor}
 use Rattle.text.specs.Fields.{newline, named}
 use Rattle.text.specs.Printing.{Printed}
-use Rattle.text.specs.inside.Appending.{Appended}
-use Rattle.text.proofs.Appends.{from_start}
-use Rattle.text.proofs.Dues.{Due, due_start, due_room, due_more}
+use Rattle.text.specs.declared.page.Page.{Page}
+use Rattle.text.specs.inside.Writing.{Fits, Wrote}
+use Rattle.text.proofs.Pages.{first_fits, rest_fits, both_wrote, blank, blank_fits, blank_printed}
 use Rattle.slicing.specs.Item.{Item}
 use Rattle.covering.specs.Covered.{total}
 use Rattle.materiallines.specs.Lines.{used_word, blank_word, face_word, gauge_lines, sheet_text}
@@ -27,67 +28,82 @@ blank_line blank = named blank_word blank newline
 abbrev pub face_line : ℕ → List ℕ
 face_line face = named face_word face newline
 
--- What the sum of the areas is, and what the lines of the gauges leave.
+-- What the sum of the areas is.
 abbrev pub Summed : List ℕ → ℕ → Type 0
 Summed layout used = (sizes : List Item) → Holds layout sizes → used ≡ total sizes
 
-abbrev pub Gauged : (old layout new : List ℕ) (next : ℕ) → Type 0
-Gauged old layout new next = (sizes : List Item) → Holds layout sizes → Appended old 0 (gauge_lines 1 sizes) new next
-
--- What the lines of the gauges ask.
-pub listable : (layout : List ℕ) (face bytes : ℕ) → Renderable layout face bytes → Listable layout bytes
-listable layout face bytes h = let room = h.room in record { sized = h.sized; room = omega arith }
-
-module _ (old layout : List ℕ) (face : ℕ) (fits : face < 2 ^ 32) (h : Renderable layout face (length old)) where
+module _ (layout : List ℕ) (face : ℕ) (fits : face < 2 ^ 32) (text : MutBor (List ℕ)) (h : Renderable layout face (length text.now)) (page : Page ℕ) (empty : page ≡ blank text) where
   abbrev sizes : List Item
   sizes = h.sized.sizes
 
-  abbrev whole : List ℕ
-  whole = sheet_text sizes (face - total sizes) face
-
-  whole_fits : length whole ≤ length old
+  whole_fits : length (sheet_text sizes (face - total sizes) face) ≤ length text.now
   whole_fits =
       omega (arith, h.room, sheet_fits sizes (face - total sizes) face h.sized.few h.sized.limited (omega arith) fits)
 
-  module _ (used : ℕ) (all : Summed layout used) (a : List ℕ) (i : ℕ) (s : Gauged old layout a i) where
+  all_fit : Fits page (sheet_text sizes (face - total sizes) face)
+  all_fit = blank_fits text page empty (sheet_text sizes (face - total sizes) face) whole_fits
+
+  -- What the lines of the gauges ask.
+  pub listable : Listable page layout
+  unfolding sheet_text
+  listable =
+      record {
+        sized = h.sized;
+        room = first_fits page (gauge_lines 1 sizes) (used_line (total sizes) ++ (blank_line (face - total sizes) ++ face_line face)) all_fit;
+      }
+
+  module _ (used : ℕ) (all : Summed layout used) where
     used_same : used ≡ total sizes
     used_same = all sizes h.sized.held
 
     pub used_inside : used ≤ face
     used_inside = omega (arith, used_same, h.inside)
 
-    used_due : Due old 0 whole (used_line used ++ (blank_line (face - used) ++ face_line face)) a i
+    abbrev last_lines : List ℕ
+    last_lines = used_line used ++ (blank_line (face - used) ++ face_line face)
+
+    text_same : sheet_text sizes (face - total sizes) face ≡ gauge_lines 1 sizes ++ last_lines
     unfolding sheet_text
-    used_due =
-        let rest = used_line (total sizes) ++ (blank_line (face - total sizes) ++ face_line face) in
-        let start = due_start old 0 whole (omega (arith, whole_fits)) in
-        rw used_same (due_more old 0 whole (gauge_lines 1 sizes) rest old 0 start a i (s sizes h.sized.held))
+    text_same =
+        ap (λ (n : ℕ). gauge_lines 1 sizes ++ (used_line n ++ (blank_line (face - n) ++ face_line face))) (sym used_same)
 
-    pub used_room : i + length (used_line used) ≤ length a
-    used_room = due_room old 0 whole (used_line used) (blank_line (face - used) ++ face_line face) a i used_due
+    lines_fit : Fits page (gauge_lines 1 sizes ++ last_lines)
+    lines_fit = subst (Fits page) text_same all_fit
 
-    module _ (b : List ℕ) (j : ℕ) (t : Appended a i (used_line used) b j) where
-      blank_due : Due old 0 whole (blank_line (face - used) ++ face_line face) b j
-      blank_due = due_more old 0 whole (used_line used) (blank_line (face - used) ++ face_line face) a i used_due b j t
+    module _ (a : Page ℕ) (gauged : (sizes : List Item) → Holds layout sizes → Wrote page (gauge_lines 1 sizes) a) where
+      after_gauges : Fits a last_lines
+      after_gauges = rest_fits page (gauge_lines 1 sizes) last_lines a (gauged sizes h.sized.held) lines_fit
 
-      pub blank_room : j + length (blank_line (face - used)) ≤ length b
-      blank_room = due_room old 0 whole (blank_line (face - used)) (face_line face) b j blank_due
+      pub used_fits : Fits a (used_line used)
+      used_fits = first_fits a (used_line used) (blank_line (face - used) ++ face_line face) after_gauges
 
-      module _ (c : List ℕ) (k : ℕ) (u : Appended b j (blank_line (face - used)) c k) where
-        face_due : Due old 0 whole (face_line face) c k
-        face_due = due_more old 0 whole (blank_line (face - used)) (face_line face) b j blank_due c k u
+      module _ (b : Page ℕ) (s : Wrote a (used_line used) b) where
+        after_used : Fits b (blank_line (face - used) ++ face_line face)
+        after_used = rest_fits a (used_line used) (blank_line (face - used) ++ face_line face) b s after_gauges
 
-        pub face_room : k + length (face_line face) ≤ length c
-        face_room = face_due.room
+        pub blank_line_fits : Fits b (blank_line (face - used))
+        blank_line_fits = first_fits b (blank_line (face - used)) (face_line face) after_used
 
-        pub sheet_is_printed : (new : List ℕ) (r : ℕ) → Appended c k (face_line face) new r → (l : List Item) (blank : ℕ) → Holds layout l → total l + blank ≡ face → Printed (sheet_text l blank face) old new r
-        sheet_is_printed new r v l blank held sum =
-            subst (λ (text : List ℕ). Printed text old new r)
-            (ap₂ (λ (m : List Item) (n : ℕ). sheet_text m n face) same left)
-            (from_start (face_due.rest new r v) whole_fits)
-          where
-            same : sizes ≡ l
-            same = holds_same layout sizes l h.sized.held held
+        module _ (c : Page ℕ) (t : Wrote b (blank_line (face - used)) c) where
+          pub face_fits : Fits c (face_line face)
+          face_fits = rest_fits b (blank_line (face - used)) (face_line face) c t after_used
 
-            left : face - total sizes ≡ blank
-            left = rw same (omega arith)
+          module _ (last : Page ℕ) (u : Wrote c (face_line face) last) (new : List ℕ) (end : new ≡ last.buffer.now) where
+            written : Wrote page (sheet_text sizes (face - total sizes) face) last
+            written =
+                subst (λ (l : List ℕ). Wrote page l last) (sym text_same)
+                (both_wrote page (gauge_lines 1 sizes) last_lines a (gauged sizes h.sized.held) last
+                (both_wrote a (used_line used) (blank_line (face - used) ++ face_line face) b s last
+                (both_wrote b (blank_line (face - used)) (face_line face) c t last u)))
+
+            pub sheet_is_printed : (l : List Item) (left : ℕ) → Holds layout l → total l + left ≡ face → Printed (sheet_text l left face) text.now new last.at
+            sheet_is_printed l left held sum =
+                subst (λ (bytes : List ℕ). Printed bytes text.now new last.at)
+                (ap₂ (λ (m : List Item) (n : ℕ). sheet_text m n face) same less)
+                (blank_printed text page empty (sheet_text sizes (face - total sizes) face) last written new end whole_fits)
+              where
+                same : sizes ≡ l
+                same = holds_same layout sizes l h.sized.held held
+
+                less : face - total sizes ≡ left
+                less = rw same (omega arith)

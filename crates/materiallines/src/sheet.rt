@@ -8,7 +8,7 @@ ghost use Rattle.materiallines.specs.inside.Listing.{Holds, Renderable};
 
 use crate::areas::total_area;
 use crate::lines::write_gauges;
-use text::write_named;
+use text::page::Page;
 
 // The sheet of a layout, five words a gauge, with the area of its face. What is not used of the face is blank. Answers
 // the text's length.
@@ -17,8 +17,10 @@ pub fn write_sheet(layout: &[u32], face: u32, text: &mut [u8]) -> usize
     ensures { (sizes : List Item) (blank : ℕ) → Holds layout.now sizes → total sizes + blank ≡ face → Printed (sheet_text sizes blank face) text.old text.new result }
 {
     let used = total_area(layout);
-    let gauged = write_gauges(text, layout);
-    let first = write_named(text, gauged, b"used ", used, b'\n');
-    let second = write_named(text, first, b"blank ", face - used, b'\n');
-    write_named(text, second, b"face ", face, b'\n')
+    let mut page = Page::new(text);
+    write_gauges(&mut page, layout);
+    page.named(b"used ", used, b'\n');
+    page.named(b"blank ", face - used, b'\n');
+    page.named(b"face ", face, b'\n');
+    page.at
 }

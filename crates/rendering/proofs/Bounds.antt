@@ -4,6 +4,8 @@ use mathlib.Core.Path.{◌≡◌}
 use mathlib.Core.List.{List, [], ◌∷◌, ◌++◌}
 use Prim.Native.Nat.{ℕ, suc, ◌+◌, ◌*◌, ◌/◌, ◌^◌, ◌≤◌, ◌<◌}
 use native.Mathlib.Omega.{arith}
+use mir.Val.{Fits}
+use mir.Syntax.{w32}
 use lib.ListN.{length, get_or, length-append}
 use Rattle.text.specs.Fields.{space, newline, field, named}
 use Rattle.text.proofs.Lengths.{field_few, named_few}
@@ -14,7 +16,7 @@ use Rattle.rendering.proofs.LineLaws.{length_four, item_length, best_length, gau
 
 -- Each word of a buffer is below 2^32.
 abbrev pub Words : List ℕ → Type 0
-Words l = (i : ℕ) → get_or l i 0 < 2 ^ 32
+Words l = (i : ℕ) → Fits w32 (get_or l i 0)
 
 field_most : (n end : ℕ) → n < 2 ^ 32 → length (field n end) ≤ 11
 field_most n end fits = field_few 10 n end (omega arith) (omega arith)
@@ -31,7 +33,7 @@ unfolding word_lines
 items_most [] fits = omega arith
 items_most (h ∷ []) fits = omega arith
 items_most (h ∷ w ∷ l) fits =
-    let line = item_most h w (fits 0) (fits 1) in
+    let line = item_most h w (fits 0).fits (fits 1).fits in
     let lines = items_most l (λ i. fits (suc (suc i))) in
     omega (arith, length-append (item_line h w) (word_lines l))
 
@@ -51,7 +53,7 @@ gauges_most number (a ∷ b ∷ []) fits low = omega arith
 gauges_most number (a ∷ b ∷ c ∷ []) fits low = omega arith
 gauges_most number (a ∷ b ∷ c ∷ d ∷ []) fits low = omega arith
 gauges_most number (size ∷ across ∷ up ∷ wide ∷ high ∷ l) fits low =
-    let line = gauge_most number size across up (omega arith) (fits 0) (fits 1) (fits 2) in
+    let line = gauge_most number size across up (omega arith) (fits 0).fits (fits 1).fits (fits 2).fits in
     let lines = gauges_most (number + 1) l (λ i. fits (suc (suc (suc (suc (suc i)))))) (omega arith) in
     omega (arith, length-append (gauge_line number size across up) (gauge_lines (number + 1) l))
 
@@ -63,11 +65,15 @@ parts items h w area layout =
 -- What `render` is given: words below 2^32, and room for every text.
 pub record Renderable (items : List ℕ) (h w area : ℕ) (layout text : List ℕ) : Type 0 where
   pub items_fit : Words items
-  pub high : h < 2 ^ 32
-  pub wide : w < 2 ^ 32
-  pub large : area < 2 ^ 32
+  pub high : Fits w32 h
+  pub wide : Fits w32 w
+  pub large : Fits w32 area
   pub layout_fits : Words layout
   pub asked : (length items ≤ 2 * 449) × (length layout ≤ 5 * 64) × (text_bytes ≤ length text)
+
+pub renderable : (items : List ℕ) (h w area : ℕ) (layout text : List ℕ) → Words items → Fits w32 h → Fits w32 w → Fits w32 area → Words layout → (length items ≤ 2 * 449) × (length layout ≤ 5 * 64) × (text_bytes ≤ length text) → Renderable items h w area layout text
+renderable items h w area layout text i high wide large l asked =
+    record { items_fit = i; high = high; wide = wide; large = large; layout_fits = l; asked = asked }
 
 module _ (items : List ℕ) (h w area : ℕ) (layout text : List ℕ) where
   parts_length : length (parts items h w area layout) ≡ length (named faces_word (length items / 2) newline) + (length (word_lines items) + (length (best_line h w area) + length (gauge_lines 1 layout)))
@@ -79,13 +85,9 @@ module _ (items : List ℕ) (h w area : ℕ) (layout text : List ℕ) where
     parts_most =
         let first = named_most faces_word (length items / 2) newline (omega (arith, k.asked.0)) in
         let listed = items_most items k.items_fit in
-        let best = best_most h w area k.high k.wide k.large in
+        let best = best_most h w area k.high.fits k.wide.fits k.large.fits in
         let laid = gauges_most 1 layout k.layout_fits (omega (arith, k.asked.1)) in
         omega (arith, k.asked.0, k.asked.1, parts_length)
-
-    -- So all of them fit.
-    pub parts_fit : length (named faces_word (length items / 2) newline) + (length (word_lines items) + (length (best_line h w area) + length (gauge_lines 1 layout))) ≤ length text
-    parts_fit = omega (arith, k.asked.2, parts_most, parts_length)
 
 pub refused_most : (number : ℕ) → number < 2 ^ 32 → length (refused_text number) ≤ refused_bytes
 unfolding refused_text

@@ -1,14 +1,16 @@
--- The first line, the items, the best one and the gauges, appended in turn from the buffer's start, are the text of the face; so is the line of a refused one.
+-- The first line, the items, the best one and the gauges, written in turn on a new page, are the text of the face; so is the line of a refused one.
 -- The words of the items are those of their list, so the lines by words are the lines of the list, and all parts together take no more than the bytes allowed.
 use mathlib.Core.Path.{◌≡◌, refl, ap, ap₂, ◌∙◌}
 use mathlib.Core.List.{List, [], ◌∷◌, ◌++◌}
-use Prim.Native.Nat.{ℕ, ◌+◌, ◌*◌, ◌/◌, ◌^◌, ◌≤◌, ◌<◌}
+use Prim.Native.Nat.{ℕ, ◌*◌, ◌/◌, ◌^◌, ◌≤◌, ◌<◌}
 use native.Mathlib.Omega.{arith}
 use lib.ListN.{length}
+use Rattle.std.specs.Borrow.{MutBor}
 use Rattle.text.specs.Fields.{newline, named}
 use Rattle.text.specs.Printing.{Printed, Counted}
-use Rattle.text.specs.inside.Appending.{Appended}
-use Rattle.text.proofs.Appends.{same_bytes, joined, from_start, counted}
+use Rattle.text.specs.declared.page.Page.{Page}
+use Rattle.text.specs.inside.Writing.{Fits, Wrote}
+use Rattle.text.proofs.Pages.{same_wrote, blank, blank_fits, blank_printed, blank_counted}
 use Rattle.slicing.specs.Item.{Item, height, width}
 use Rattle.writing.specs.Words.{list_words}
 use Rattle.writing.proofs.WordLaws.{words_length}
@@ -36,28 +38,33 @@ parts_text items h w area layout l z words high wide product =
     best : best_line h w area ≡ best_line z.m z.p (z.m * z.p)
     best = cc
 
-module _ (old a b c new : List ℕ) (i j k r : ℕ) (items : List ℕ) (h w area : ℕ) (layout : List ℕ) where
-  pub parts_appended : Appended old 0 (named faces_word (length items / 2) newline) a i → Appended a i (word_lines items) b j → Appended b j (best_line h w area) c k → Appended c k (gauge_lines 1 layout) new r → Appended old 0 (parts items h w area layout) new r
-  unfolding parts
-  parts_appended s t u v = joined s (joined t (joined u v))
+module _ (items : List ℕ) (h w area : ℕ) (layout : List ℕ) (text : MutBor (List ℕ)) (k : Renderable items h w area layout text.now) (page : Page ℕ) (empty : page ≡ blank text) where
+  pub all_fit : Fits page (parts items h w area layout)
+  all_fit =
+      blank_fits text page empty (parts items h w area layout) (omega (arith, k.asked.2, parts_most items h w area layout text.now k))
 
-module _ (items : List ℕ) (h w area : ℕ) (layout old new : List ℕ) (r : ℕ) (s : Appended old 0 (parts items h w area layout) new r) where
-  pub faces_printed : Renderable items h w area layout old → ((l : List Item) (z : Item) → items ≡ list_words l → h ≡ z.m → w ≡ z.p → area ≡ z.m * z.p → Printed (faces_text l z layout) old new r) × Counted text_bytes new r
-  faces_printed k =
-      let most = parts_most items h w area layout old k in (
-        λ l z words high wide product.
-            let same = parts_text items h w area layout l z words high wide product in
-            from_start (same_bytes s same) (omega (arith, k.asked.2, ap length same)),
-        counted s most k.asked.2,
-      )
+  module _ (last : Page ℕ) (s : Wrote page (parts items h w area layout) last) (new : List ℕ) (end : new ≡ last.buffer.now) where
+    pub faces_printed : (l : List Item) (z : Item) → items ≡ list_words l → h ≡ z.m → w ≡ z.p → area ≡ z.m * z.p → Printed (faces_text l z layout) text.now new last.at
+    faces_printed l z words high wide product =
+        let same = parts_text items h w area layout l z words high wide product in
+        let most = parts_most items h w area layout text.now k in
+        blank_printed text page empty (faces_text l z layout) last (same_wrote page (parts items h w area layout) (faces_text l z layout) last same s) new end (omega (arith, k.asked.2, ap length same))
 
--- The line of a refused one fits.
-pub refused_fits : (number : ℕ) (text : List ℕ) → number < 2 ^ 32 → refused_bytes ≤ length text → 0 + length (named refused_word number newline) ≤ length text
-unfolding refused_text
-refused_fits number text fits room = omega (arith, refused_most number fits)
+    pub faces_counted : Counted text_bytes new last.at
+    faces_counted =
+        blank_counted text page empty (parts items h w area layout) last s new end text_bytes (parts_most items h w area layout text.now k) k.asked.2
 
-pub refused_printed : (old new : List ℕ) (number r : ℕ) → number < 2 ^ 32 → Appended old 0 (named refused_word number newline) new r → refused_bytes ≤ length old → Printed (refused_text number) old new r × Counted refused_bytes new r
-unfolding refused_text
-refused_printed old new number r fits s room =
-    let few = refused_most number fits in
-    (from_start s (omega arith), counted s few room)
+-- The line of a refused one.
+module _ (number : ℕ) (fits : number < 2 ^ 32) (text : MutBor (List ℕ)) (room : refused_bytes ≤ length text.now) (page : Page ℕ) (empty : page ≡ blank text) where
+  pub refused_fits : Fits page (named refused_word number newline)
+  unfolding refused_text
+  refused_fits = blank_fits text page empty (refused_text number) (omega (arith, refused_most number fits))
+
+  module _ (last : Page ℕ) (s : Wrote page (named refused_word number newline) last) (new : List ℕ) (end : new ≡ last.buffer.now) where
+    pub refused_printed : Printed (refused_text number) text.now new last.at
+    unfolding refused_text
+    refused_printed = blank_printed text page empty (refused_text number) last s new end (omega (arith, refused_most number fits))
+
+    pub refused_counted : Counted refused_bytes new last.at
+    unfolding refused_text
+    refused_counted = blank_counted text page empty (refused_text number) last s new end refused_bytes (refused_most number fits) room

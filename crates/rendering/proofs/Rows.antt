@@ -1,75 +1,87 @@
--- What the loops that write a line for each group of words keep: the lines of the groups left fit, and appended at the place reached they give the lines of all.
--- A turn appends the line of the first group left, and at the end no group is left.
-use mathlib.Core.Path.{◌≡◌, refl, sym, ap, ◌∙◌}
+-- What the loops that write a line for each group of words keep: the lines of the groups left complete the lines of all.
+-- A turn writes the line of the first group left, and at the end fewer words are left than make a group.
+use mathlib.Core.Path.{◌≡◌, refl, sym, ap, subst, ◌∙◌}
 use mathlib.Core.List.{List, [], ◌∷◌, ◌++◌}
-use Prim.Native.Nat.{ℕ, ◌+◌, ◌*◌, ◌/◌, ◌≤◌, ◌<◌}
-use native.Mathlib.Numerals.{add-one}
+use Prim.Native.Nat.{ℕ, ◌+◌, ◌/◌, ◌≤◌, ◌<◌}
 use native.Mathlib.Omega.{arith}
-use lib.ListN.{length, get_or, drop, length-drop}
-use lib.Seq.{drop-cons}
-use Rattle.text.specs.inside.Appending.{Appended}
-use Rattle.text.proofs.Dues.{Due, due_start, due_room, due_more, due_done}
+use lib.ListN.{length, get_or, length-append}
+use Rattle.std.specs.declared.slice.ChunksExact.{ChunksExact}
+use Rattle.std.specs.Slice.Iter.{chunks_exact_rest, chunks_exact_size}
+use Rattle.text.specs.declared.page.Page.{Page}
+use Rattle.text.specs.inside.Writing.{Fits, Wrote}
+use Rattle.text.proofs.Dues.{Due, due_start, due_fits, due_more, due_done}
 use Rattle.rendering.specs.Text.{item_line, gauge_line, gauge_lines}
 use Rattle.rendering.specs.inside.WordLines.{word_lines}
 
-drop_next : (l : List ℕ) (i j : ℕ) → i < length l → j ≡ i + 1 → drop i l ≡ get_or l i 0 ∷ drop j l
-drop_next l i j h e = drop-cons l i 0 h ∙ ap (λ (n : ℕ). get_or l i 0 ∷ drop n l) (sym (add-one i) ∙ sym e)
+-- The items.
+pub record ItemsDue (old : Page ℕ) (items : List ℕ) (left : ChunksExact ℕ) (now : Page ℕ) : Type 0 where
+  pub two : chunks_exact_size left ≡ 2
+  pub due : Due old (word_lines items) (word_lines (chunks_exact_rest left)) now
 
--- The items: k of them are written.
-pub record ItemsDue (old : List ℕ) (at : ℕ) (items text : List ℕ) (next k : ℕ) : Type 0 where
-  pub within : k ≤ length items / 2
-  pub due : Due old at (word_lines items) (word_lines (drop (2 * k) items)) text next
+pub items_start : (old : Page ℕ) (items : List ℕ) (left : ChunksExact ℕ) → chunks_exact_size left ≡ 2 → chunks_exact_rest left ≡ items → Fits old (word_lines items) → ItemsDue old items left old
+items_start old items left two all fits =
+    record {
+      two = two;
+      due = subst (λ (l : List ℕ). Due old (word_lines items) (word_lines l) old) (sym all) (due_start old (word_lines items) fits);
+    }
 
-pub items_start : (old : List ℕ) (at : ℕ) (items : List ℕ) → at + length (word_lines items) ≤ length old → ItemsDue old at items old at 0
-items_start old at items room = record { within = omega arith; due = due_start old at (word_lines items) room }
-
-few_words : (l : List ℕ) → length l ≤ 1 → word_lines l ≡ []
+few_words : (l : List ℕ) → length l < 2 → word_lines l ≡ []
 unfolding word_lines
 few_words [] h = refl
 few_words (a ∷ []) h = refl
 few_words (a ∷ b ∷ l) h = absurd (omega arith)
 
--- The item at a place.
-abbrev item_at : List ℕ → ℕ → List ℕ
-item_at items k = item_line (get_or items (2 * k) 0) (get_or items (2 * k + 1) 0)
+-- The line of an item of two words.
+abbrev pub item_of : List ℕ → List ℕ
+item_of item = item_line (get_or item 0 0) (get_or item 1 0)
 
-module _ (old : List ℕ) (at : ℕ) (items text : List ℕ) (next k : ℕ) (s : ItemsDue old at items text next k) where
-  module _ (more : k < length items / 2) where
-    next_due : Due old at (word_lines items) (item_at items k ++ word_lines (drop (2 * (k + 1)) items)) text next
-    unfolding word_lines
-    next_due = rw first at s.due
-      where
-        first : drop (2 * k) items ≡ get_or items (2 * k) 0 ∷ get_or items (2 * k + 1) 0 ∷ drop (2 * (k + 1)) items
-        first =
-            drop_next items (2 * k) (2 * k + 1) (omega arith) refl
-            ∙ ap (λ (l : List ℕ). get_or items (2 * k) 0 ∷ l) (drop_next items (2 * k + 1) (2 * (k + 1)) (omega arith) (omega arith))
+first_item : (item l : List ℕ) → length item ≡ 2 → word_lines (item ++ l) ≡ item_of item ++ word_lines l
+unfolding word_lines
+first_item (h ∷ w ∷ []) l two = refl
+first_item [] l two = absurd (omega arith)
+first_item (h ∷ []) l two = absurd (omega arith)
+first_item (h ∷ w ∷ x ∷ item) l two = absurd (omega arith)
 
-    pub items_room : next + length (item_line (get_or items (2 * k) 0) (get_or items (2 * k + 1) 0)) ≤ length text
-    items_room = due_room old at (word_lines items) (item_at items k) (word_lines (drop (2 * (k + 1)) items)) text next next_due
+module _ (old : Page ℕ) (items : List ℕ) (left : ChunksExact ℕ) (now : Page ℕ) (s : ItemsDue old items left now) where
+  module _ (item : List ℕ) (then : ChunksExact ℕ) (size : chunks_exact_size then ≡ chunks_exact_size left) (next : chunks_exact_rest left ≡ item ++ chunks_exact_rest then) (long : length item ≡ chunks_exact_size left) where
+    next_item : Due old (word_lines items) (item_of item ++ word_lines (chunks_exact_rest then)) now
+    next_item =
+        subst (λ (l : List ℕ). Due old (word_lines items) l now)
+        (ap word_lines next ∙ first_item item (chunks_exact_rest then) (long ∙ s.two)) s.due
 
-    pub items_more : (new : List ℕ) (r : ℕ) → Appended text next (item_line (get_or items (2 * k) 0) (get_or items (2 * k + 1) 0)) new r → ItemsDue old at items new r (k + 1)
-    items_more new r t =
+    pub item_fits : Fits now (item_of item)
+    item_fits = due_fits old (word_lines items) (item_of item) (word_lines (chunks_exact_rest then)) now next_item
+
+    pub items_more : (new : Page ℕ) → Wrote now (item_of item) new → ItemsDue old items then new
+    items_more new t =
         record {
-          within = omega arith;
-          due = due_more old at (word_lines items) (item_at items k) (word_lines (drop (2 * (k + 1)) items)) text next next_due new r t;
+          two = size ∙ s.two;
+          due = due_more old (word_lines items) (item_of item) (word_lines (chunks_exact_rest then)) now next_item new t;
         }
 
-  pub items_done : length items / 2 ≤ k → Appended old at (word_lines items) text next
+  pub items_done : length (chunks_exact_rest left) < chunks_exact_size left → Wrote old (word_lines items) now
   items_done end =
-      let within = s.within in
-      let left = length-drop (2 * k) items in
-      let none = few_words (drop (2 * k) items) (omega arith) in
-      due_done old at (word_lines items) text next (rw none at s.due)
+      let two = s.two in
+      due_done old (word_lines items) now
+      (subst (λ (l : List ℕ). Due old (word_lines items) l now) (few_words (chunks_exact_rest left) (omega arith)) s.due)
 
--- The gauges: k of them are written.
-pub record GaugesDue (old : List ℕ) (at : ℕ) (layout text : List ℕ) (next k : ℕ) : Type 0 where
-  pub within : k ≤ length layout / 5
-  pub due : Due old at (gauge_lines 1 layout) (gauge_lines (k + 1) (drop (5 * k) layout)) text next
+-- The gauges, from a number on.
+pub record GaugesDue (old : Page ℕ) (layout : List ℕ) (left : ChunksExact ℕ) (number : ℕ) (now : Page ℕ) : Type 0 where
+  pub five : chunks_exact_size left ≡ 5
+  pub counted : number + length (chunks_exact_rest left) / 5 ≤ 65
+  pub due : Due old (gauge_lines 1 layout) (gauge_lines number (chunks_exact_rest left)) now
 
-pub gauges_start : (old : List ℕ) (at : ℕ) (layout : List ℕ) → at + length (gauge_lines 1 layout) ≤ length old → GaugesDue old at layout old at 0
-gauges_start old at layout room = record { within = omega arith; due = due_start old at (gauge_lines 1 layout) room }
+pub gauges_start : (old : Page ℕ) (layout : List ℕ) (left : ChunksExact ℕ) → chunks_exact_size left ≡ 5 → chunks_exact_rest left ≡ layout → (length layout ≤ 320) × Fits old (gauge_lines 1 layout) → GaugesDue old layout left 1 old
+gauges_start old layout left five all asked =
+    let few = asked.0 in
+    let same = ap length all in
+    record {
+      five = five;
+      counted = omega arith;
+      due = subst (λ (l : List ℕ). Due old (gauge_lines 1 layout) (gauge_lines 1 l) old) (sym all) (due_start old (gauge_lines 1 layout) asked.1);
+    }
 
-few_lines : (n : ℕ) (l : List ℕ) → length l ≤ 4 → gauge_lines n l ≡ []
+few_lines : (n : ℕ) (l : List ℕ) → length l < 5 → gauge_lines n l ≡ []
 unfolding gauge_lines
 few_lines n [] h = refl
 few_lines n (a ∷ []) h = refl
@@ -78,41 +90,49 @@ few_lines n (a ∷ b ∷ c ∷ []) h = refl
 few_lines n (a ∷ b ∷ c ∷ d ∷ []) h = refl
 few_lines n (a ∷ b ∷ c ∷ d ∷ e ∷ l) h = absurd (omega arith)
 
--- The gauge at a place.
-abbrev gauge_at : List ℕ → ℕ → List ℕ
-gauge_at layout k = gauge_line (k + 1) (get_or layout (5 * k) 0) (get_or layout (5 * k + 1) 0) (get_or layout (5 * k + 2) 0)
+-- The line of a gauge of five words.
+abbrev pub gauge_of : ℕ → List ℕ → List ℕ
+gauge_of number words = gauge_line number (get_or words 0 0) (get_or words 1 0) (get_or words 2 0)
 
-module _ (old : List ℕ) (at : ℕ) (layout text : List ℕ) (next k : ℕ) (s : GaugesDue old at layout text next k) where
-  module _ (more : k < length layout / 5) where
-    next_gauge : Due old at (gauge_lines 1 layout) (gauge_at layout k ++ gauge_lines (k + 1 + 1) (drop (5 * (k + 1)) layout)) text next
-    unfolding gauge_lines
-    next_gauge = rw first at s.due
-      where
-        first : drop (5 * k) layout ≡ get_or layout (5 * k) 0 ∷ get_or layout (5 * k + 1) 0 ∷ get_or layout (5 * k + 2) 0 ∷ get_or layout (5 * k + 3) 0 ∷ get_or layout (5 * k + 4) 0 ∷ drop (5 * (k + 1)) layout
-        first =
-            drop_next layout (5 * k) (5 * k + 1) (omega arith) refl
-            ∙ ap (λ (l : List ℕ). get_or layout (5 * k) 0 ∷ l)
-            (drop_next layout (5 * k + 1) (5 * k + 2) (omega arith) (omega arith)
-            ∙ ap (λ (l : List ℕ). get_or layout (5 * k + 1) 0 ∷ l)
-            (drop_next layout (5 * k + 2) (5 * k + 3) (omega arith) (omega arith)
-            ∙ ap (λ (l : List ℕ). get_or layout (5 * k + 2) 0 ∷ l)
-            (drop_next layout (5 * k + 3) (5 * k + 4) (omega arith) (omega arith)
-            ∙ ap (λ (l : List ℕ). get_or layout (5 * k + 3) 0 ∷ l)
-            (drop_next layout (5 * k + 4) (5 * (k + 1)) (omega arith) (omega arith)))))
+first_gauge : (number : ℕ) (words l : List ℕ) → length words ≡ 5 → gauge_lines number (words ++ l) ≡ gauge_of number words ++ gauge_lines (number + 1) l
+unfolding gauge_lines
+first_gauge number (a ∷ b ∷ c ∷ d ∷ e ∷ []) l five = refl
+first_gauge number [] l five = absurd (omega arith)
+first_gauge number (a ∷ []) l five = absurd (omega arith)
+first_gauge number (a ∷ b ∷ []) l five = absurd (omega arith)
+first_gauge number (a ∷ b ∷ c ∷ []) l five = absurd (omega arith)
+first_gauge number (a ∷ b ∷ c ∷ d ∷ []) l five = absurd (omega arith)
+first_gauge number (a ∷ b ∷ c ∷ d ∷ e ∷ f ∷ words) l five = absurd (omega arith)
 
-    pub gauges_room : next + length (gauge_line (k + 1) (get_or layout (5 * k) 0) (get_or layout (5 * k + 1) 0) (get_or layout (5 * k + 2) 0)) ≤ length text
-    gauges_room = due_room old at (gauge_lines 1 layout) (gauge_at layout k) (gauge_lines (k + 1 + 1) (drop (5 * (k + 1)) layout)) text next next_gauge
+module _ (old : Page ℕ) (layout : List ℕ) (left : ChunksExact ℕ) (number : ℕ) (now : Page ℕ) (s : GaugesDue old layout left number now) where
+  module _ (words : List ℕ) (then : ChunksExact ℕ) (size : chunks_exact_size then ≡ chunks_exact_size left) (next : chunks_exact_rest left ≡ words ++ chunks_exact_rest then) (long : length words ≡ chunks_exact_size left) where
+    next_gauge : Due old (gauge_lines 1 layout) (gauge_of number words ++ gauge_lines (number + 1) (chunks_exact_rest then)) now
+    next_gauge =
+        subst (λ (l : List ℕ). Due old (gauge_lines 1 layout) l now)
+        (ap (gauge_lines number) next ∙ first_gauge number words (chunks_exact_rest then) (long ∙ s.five)) s.due
 
-    pub gauges_more : (new : List ℕ) (r : ℕ) → Appended text next (gauge_line (k + 1) (get_or layout (5 * k) 0) (get_or layout (5 * k + 1) 0) (get_or layout (5 * k + 2) 0)) new r → GaugesDue old at layout new r (k + 1)
-    gauges_more new r t =
+    pub gauge_fits : Fits now (gauge_of number words)
+    gauge_fits = due_fits old (gauge_lines 1 layout) (gauge_of number words) (gauge_lines (number + 1) (chunks_exact_rest then)) now next_gauge
+
+    rest_long : length (chunks_exact_rest left) ≡ 5 + length (chunks_exact_rest then)
+    rest_long =
+        let five = s.five in
+        omega (arith, ap length next ∙ length-append words (chunks_exact_rest then))
+
+    pub number_few : number ≤ 64
+    number_few = let counted = s.counted in omega (arith, rest_long)
+
+    pub gauges_more : (new : Page ℕ) → Wrote now (gauge_of number words) new → GaugesDue old layout then (number + 1) new
+    gauges_more new t =
+        let counted = s.counted in
         record {
-          within = omega arith;
-          due = due_more old at (gauge_lines 1 layout) (gauge_at layout k) (gauge_lines (k + 1 + 1) (drop (5 * (k + 1)) layout)) text next next_gauge new r t;
+          five = size ∙ s.five;
+          counted = omega (arith, rest_long);
+          due = due_more old (gauge_lines 1 layout) (gauge_of number words) (gauge_lines (number + 1) (chunks_exact_rest then)) now next_gauge new t;
         }
 
-  pub gauges_done : length layout / 5 ≤ k → Appended old at (gauge_lines 1 layout) text next
+  pub gauges_done : length (chunks_exact_rest left) < chunks_exact_size left → Wrote old (gauge_lines 1 layout) now
   gauges_done end =
-      let within = s.within in
-      let left = length-drop (5 * k) layout in
-      let none = few_lines (k + 1) (drop (5 * k) layout) (omega arith) in
-      due_done old at (gauge_lines 1 layout) text next (rw none at s.due)
+      let five = s.five in
+      due_done old (gauge_lines 1 layout) now
+      (subst (λ (l : List ℕ). Due old (gauge_lines 1 layout) l now) (few_lines number (chunks_exact_rest left) (omega arith)) s.due)

@@ -7,7 +7,7 @@ ghost use Rattle.rendering.specs.Text.{faces_text, refused_text};
 ghost use Rattle.rendering.specs.Room.{text_bytes, refused_bytes};
 
 use crate::lines::{write_best, write_gauges, write_items};
-use text::write_named;
+use text::page::Page;
 
 // The text of a face that is taken. Height and width of each item stand in `items`, and five words of each gauge in
 // `layout`. Answers the text's length.
@@ -24,10 +24,12 @@ pub fn render(
     ensures counted { Counted text_bytes text.new result }
 {
     let count = (items.len() / 2) as u32;
-    let listed = write_named(text, 0, b"faces ", count, b'\n');
-    let chosen = write_items(text, listed, items);
-    let placed = write_best(text, chosen, height, width, area);
-    write_gauges(text, placed, layout)
+    let mut page = Page::new(text);
+    page.named(b"faces ", count, b'\n');
+    write_items(&mut page, items);
+    write_best(&mut page, height, width, area);
+    write_gauges(&mut page, layout);
+    page.at
 }
 
 // The line of a face that is refused with a number. Answers its length.
@@ -36,5 +38,7 @@ pub fn render_refused(number: u32, text: &mut [u8]) -> usize
     ensures printed { Printed (refused_text number) text.old text.new result }
     ensures counted { Counted refused_bytes text.new result }
 {
-    write_named(text, 0, b"refused ", number, b'\n')
+    let mut page = Page::new(text);
+    page.named(b"refused ", number, b'\n');
+    page.at
 }

@@ -1,42 +1,20 @@
--- What the loop that copies bytes keeps: the bytes left, stored from the place reached, give what all of them give from the start.
--- A turn stores the first of the bytes left, and at the end none is left.
-use mathlib.Core.Path.{◌≡◌, refl, sym, ap, ◌∙◌}
-use mathlib.Core.List.{List}
-use Prim.Native.Nat.{ℕ, suc, ◌+◌, ◌≤◌, ◌<◌}
+-- Values that are copied to a place of a buffer are appended there.
+-- The copy leaves what stands before them and after them, as storing them one by one does.
+use mathlib.Core.Path.{◌≡◌, sym, ap₂, ◌∙◌}
+use mathlib.Core.List.{List, ◌++◌, append_assoc}
+use Prim.Native.Nat.{ℕ, ◌+◌, ◌-◌, ◌≤◌}
 use native.Mathlib.Omega.{arith}
-use lib.ListN.{length, get_or, set, drop, length-set, drop_of_length-le}
-use lib.Seq.{sets, drop-cons}
+use lib.ListN.{length, take, drop}
+use lib.Seq.{sets-eq}
+use borrow.Rule.Slice.PartMut.{put_mid, Post-is}
 use Rattle.text.specs.inside.Appending.{Appended}
 
-pub record Copying (old : List ℕ) (at : ℕ) (bytes text : List ℕ) (i : ℕ) : Type 0 where
-  pub within : i ≤ length bytes
-  pub long : length text ≡ length old
-  pub rest : sets text (at + i) (drop i bytes) ≡ sets old at bytes
-
-pub copy_start : (old : List ℕ) (at : ℕ) (bytes : List ℕ) → Copying old at bytes old 0
-copy_start old at bytes = record { within = omega arith; long = refl; rest = ap (λ (n : ℕ). sets old n bytes) (omega arith) }
-
-pub copy_more : (old : List ℕ) (at : ℕ) (bytes text : List ℕ) (i : ℕ) → Copying old at bytes text i → i < length bytes → Copying old at bytes (set text (at + i) (get_or bytes i 0)) (i + 1)
-copy_more old at bytes text i s more =
-    record {
-      within = omega arith;
-      long = length-set text (at + i) (get_or bytes i 0) ∙ s.long;
-      rest =
-          ap (λ (n : ℕ). sets (set text (at + i) (get_or bytes i 0)) n (drop (i + 1) bytes)) place
-          ∙ ap (λ (n : ℕ). sets (set text (at + i) (get_or bytes i 0)) (suc (at + i)) (drop n bytes)) one
-          ∙ ap (λ (l : List ℕ). sets text (at + i) l) (sym (drop-cons bytes i 0 more)) ∙ s.rest;
-    }
-  where
-    place : at + (i + 1) ≡ suc (at + i)
-    place = omega arith
-
-    one : i + 1 ≡ suc i
-    one = omega arith
-
-pub copy_done : (old : List ℕ) (at : ℕ) (bytes text : List ℕ) (i : ℕ) → Copying old at bytes text i → length bytes ≤ i → Appended old at bytes text (at + i)
-copy_done old at bytes text i s end =
-    let within = s.within in
+pub copied : {A : Type 0} (old : List A) (at : ℕ) (values part : List A) → at + length values ≤ length old → part ≡ values → Appended old at values (put_mid at (at + length values - at) old part) (at + length values)
+copied {A} old at values part room same =
     record {
       place = omega arith;
-      text = ap (λ (l : List ℕ). sets text (at + i) l) (sym (drop_of_length-le bytes end)) ∙ s.rest;
+      text =
+          ap₂ (λ (l : List A) (r : List A). take at old ++ (l ++ r)) same (Post-is at (at + length values) old (omega arith))
+          ∙ sym (append_assoc (take at old) values (drop (at + length values) old))
+          ∙ sym (sets-eq values old at room);
     }

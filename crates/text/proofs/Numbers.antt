@@ -1,60 +1,45 @@
--- One digit stored is a number below ten, and the last digit stored after the tenth of a number is that number; a byte after it ends a field.
--- It is the rule of the digits, with the law that what is appended in turn is appended together.
-use mathlib.Core.Path.{sym}
-use mathlib.Core.List.{List, [], ◌∷◌}
-use Prim.Native.Nat.{ℕ, ◌+◌, ◌/◌, ◌%◌, ◌≤◌, ◌<◌}
+-- A number on a page: below ten it is its one digit, and from ten on the digits of its tenth and then its last.
+-- It is the rule of the digits, and what is written in turn is written together.
+use mathlib.Core.Path.{◌≡◌, sym, ap, ◌∙◌}
+use mathlib.Core.List.{List, [], ◌∷◌, ◌++◌}
+use Prim.Native.Nat.{ℕ, ◌/◌, ◌%◌, ◌≤◌, ◌<◌}
 use native.Mathlib.Omega.{arith}
-use lib.ListN.{length, set}
+use Rattle.text.specs.declared.page.Page.{Page}
 use Rattle.text.specs.Decimal.{digit, decimal}
-use Rattle.text.specs.Fields.{field, named}
-use Rattle.text.specs.inside.Appending.{Appended}
+use Rattle.text.specs.inside.Writing.{Fits, Wrote}
 use Rattle.text.proofs.Decimals.{decimal_small, decimal_large}
-use Rattle.text.proofs.Lengths.{decimal_short, decimal_longer}
-use Rattle.text.proofs.Appends.{one, same_bytes, joined, appended_length, first_room, rest_room}
+use Rattle.text.proofs.Pages.{same_fit, same_wrote, first_fits, rest_fits, both_wrote}
 
-module _ (old : List ℕ) (at n : ℕ) (low : n < 10) where
-  -- There is room for it.
-  pub one_room : at + length (decimal n) ≤ length old → at < length old
-  one_room room = omega (arith, decimal_short n low)
+-- The last digit.
+abbrev last : ℕ → List ℕ
+last n = digit (n % 10) ∷ []
 
-  pub number_one : Appended old at (decimal n) (set old at (48 + n)) (at + 1)
-  number_one = same_bytes (one old at (digit n)) (sym (decimal_small n low))
+module _ (p : Page ℕ) (n : ℕ) where
+  module _ (low : n < 10) where
+    only : last n ≡ decimal n
+    only = ap (λ (d : ℕ). digit d ∷ []) alone ∙ sym (decimal_small n low)
+      where
+        alone : n % 10 ≡ n
+        alone = omega arith
 
-module _ (old : List ℕ) (at n : ℕ) (high : 10 ≤ n) where
-  pub tenth_room : at + length (decimal n) ≤ length old → at + length (decimal (n / 10)) ≤ length old
-  tenth_room room = omega (arith, decimal_longer n high)
+    pub digit_fits : Fits p (decimal n) → Fits p (last n)
+    digit_fits f = same_fit p (decimal n) (last n) (sym only) f
 
-  pub last_room : (mid : List ℕ) (last : ℕ) → at + length (decimal n) ≤ length old → Appended old at (decimal (n / 10)) mid last → last < length mid
-  last_room mid last room s =
-      let place = s.place in
-      let same = appended_length s in
-      omega (arith, decimal_longer n high)
+    pub digit_wrote : (q : Page ℕ) → Wrote p (last n) q → Wrote p (decimal n) q
+    digit_wrote q s = same_wrote p (last n) (decimal n) q only s
 
-  pub number_more : (mid : List ℕ) (last : ℕ) → Appended old at (decimal (n / 10)) mid last → Appended old at (decimal n) (set mid last (48 + n % 10)) (last + 1)
-  number_more mid last s = same_bytes (joined s (one mid last (digit (n % 10)))) (sym (decimal_large n high))
+  module _ (high : 10 ≤ n) where
+    both_fit : Fits p (decimal n) → Fits p (decimal (n / 10) ++ last n)
+    both_fit f = same_fit p (decimal n) (decimal (n / 10) ++ last n) (decimal_large n high) f
 
-module _ (old : List ℕ) (at n end : ℕ) where
-  pub number_room : at + length (field n end) ≤ length old → at + length (decimal n) ≤ length old
-  unfolding field
-  number_room room = first_room old at (decimal n) (end ∷ []) room
+    pub tenth_fits : Fits p (decimal n) → Fits p (decimal (n / 10))
+    tenth_fits f = first_fits p (decimal (n / 10)) (last n) (both_fit f)
 
-  pub end_room : (mid : List ℕ) (last : ℕ) → at + length (field n end) ≤ length old → Appended old at (decimal n) mid last → last < length mid
-  unfolding field
-  end_room mid last room s = omega (arith, rest_room old at (decimal n) (end ∷ []) room mid last s)
+    module _ (q : Page ℕ) (s : Wrote p (decimal (n / 10)) q) where
+      pub last_fits : Fits p (decimal n) → Fits q (last n)
+      last_fits f = rest_fits p (decimal (n / 10)) (last n) q s (both_fit f)
 
-  pub field_end : (mid : List ℕ) (last : ℕ) → Appended old at (decimal n) mid last → Appended old at (field n end) (set mid last end) (last + 1)
-  unfolding field
-  field_end mid last s = joined s (one mid last end)
-
-module _ (old : List ℕ) (at : ℕ) (words : List ℕ) (n end : ℕ) where
-  pub words_room : at + length (named words n end) ≤ length old → at + length words ≤ length old
-  unfolding named
-  words_room room = first_room old at words (field n end) room
-
-  pub field_room : (mid : List ℕ) (next : ℕ) → at + length (named words n end) ≤ length old → Appended old at words mid next → next + length (field n end) ≤ length mid
-  unfolding named
-  field_room mid next room s = rest_room old at words (field n end) room mid next s
-
-  pub named_field : (mid : List ℕ) (next : ℕ) (new : List ℕ) (r : ℕ) → Appended old at words mid next → Appended mid next (field n end) new r → Appended old at (named words n end) new r
-  unfolding named
-  named_field mid next new r s t = joined s t
+      pub last_wrote : (r : Page ℕ) → Wrote q (last n) r → Wrote p (decimal n) r
+      last_wrote r t =
+          same_wrote p (decimal (n / 10) ++ last n) (decimal n) r (sym (decimal_large n high))
+          (both_wrote p (decimal (n / 10)) (last n) q s r t)

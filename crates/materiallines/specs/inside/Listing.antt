@@ -4,7 +4,9 @@ use Rattle.checks.specs.Limits.{most_gauges}
 use Rattle.slicing.specs.Item.{Item, size, height, width}
 use Rattle.slicing.specs.Good.{Limited}
 use Rattle.covering.specs.Covered.{total}
-use Rattle.materiallines.specs.Lines.{sheet_bytes}
+use Rattle.text.specs.declared.page.Page.{Page}
+use Rattle.text.specs.inside.Writing.{Fits}
+use Rattle.materiallines.specs.Lines.{gauge_lines, sheet_bytes}
 
 -- The size at an index.
 abbrev pub size_at : List Item → ℕ → Item
@@ -23,10 +25,10 @@ pub record Sized (layout : List ℕ) : Type 0 where
   pub few : length sizes ≤ most_gauges
   pub limited : (i : ℕ) → i < length sizes → Limited (size_at sizes i)
 
--- With room for their lines in so many bytes.
-pub record Listable (layout : List ℕ) (bytes : ℕ) : Type 0 where
+-- With room for their lines on a page.
+pub record Listable (page : Page ℕ) (layout : List ℕ) : Type 0 where
   pub sized : Sized layout
-  pub room : 32 * length sized.sizes ≤ bytes
+  pub room : Fits page (gauge_lines 1 sized.sizes)
 
 -- With room for the whole sheet, of a face that their areas are not more than.
 pub record Renderable (layout : List ℕ) (face bytes : ℕ) : Type 0 where

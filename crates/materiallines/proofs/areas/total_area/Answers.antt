@@ -1,27 +1,29 @@
 -- `materiallines::areas::total_area` meets its contract.
--- The loop keeps `AreasDue`, that the areas of the gauges left complete the sum of all; the measure is the number of the words left.
+-- The loop keeps `AreasDue`, that the areas of the gauges left complete the sum of all.
 use borrow.Author.Rules.{rules}
 use native.Mathlib.Omega.{arith}
-use Rattle.materiallines.proofs.AreaSums.{areas_start, areas_few, areas_area, areas_used, areas_more, areas_done}
+use Rattle.materiallines.proofs.AreaSums.{areas_start, areas_area, areas_used, areas_more, areas_done}
 use Rattle.materiallines.proofs.areas.total_area.Goals as goal
 
-pub loop-k-init : goal.loop-k-init
-loop-k-init c = search (rules, areas_start)
+pub loop-words-init : goal.loop-words-init
+loop-words-init c = search (rules, areas_start)
 
-pub overflow_mul-k : goal.overflow_mul-k
-overflow_mul-k c = omega (arith, areas_few _ _ _ c.loop-k.invariant)
+pub overflow_mul-used : goal.overflow_mul-used
+overflow_mul-used c =
+    let step = c.in-Some.ensures.steps in
+    record { fits = areas_area _ _ _ c.loop-words.invariant.2 _ c.next.new.self step.0 step.1.0 step.1.1 }
 
-pub overflow_add-k : goal.overflow_add-k
-overflow_add-k c = omega (arith, areas_few _ _ _ c.loop-k.invariant)
+pub overflow_add-used : goal.overflow_add-used
+overflow_add-used c =
+    let step = c.in-Some.ensures.steps in
+    record { fits = areas_used _ _ _ c.loop-words.invariant.2 _ c.next.new.self step.0 step.1.0 step.1.1 }
 
-pub overflow_mul-used-in-loop-k-2 : goal.overflow_mul-used-in-loop-k-2
-overflow_mul-used-in-loop-k-2 c = record { fits = areas_area _ _ _ c.loop-k.invariant (omega arith) }
-
-pub overflow_add-used-in-loop-k-2 : goal.overflow_add-used-in-loop-k-2
-overflow_add-used-in-loop-k-2 c = record { fits = areas_used _ _ _ c.loop-k.invariant (omega arith) }
-
-pub loop-k-preserved : goal.loop-k-preserved
-loop-k-preserved c = areas_more _ _ _ c.loop-k.invariant (omega arith)
+pub loop-words-preserved : goal.loop-words-preserved
+loop-words-preserved c =
+    let step = c.in-Some.ensures.steps in
+    let more = areas_more _ _ _ c.loop-words.invariant.2 _ c.next.new.self step.0 step.1.0 step.1.1 in
+    let five = more.five in
+    (omega arith, tt, more)
 
 pub returns : goal.returns
-returns c = areas_done _ _ _ c.loop-k.invariant c.loop-k-test.false
+returns c = areas_done _ _ _ c.loop-words.invariant.2 c.in-None.ensures.steps.1.0

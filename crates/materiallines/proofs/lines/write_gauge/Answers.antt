@@ -1,29 +1,29 @@
 -- `materiallines::lines::write_gauge` meets its contract.
--- The four fields fit where the line fits, and appended in turn they are it, by `gauge_line_written`.
-use native.Mathlib.Omega.{arith}
-use borrow.Author.Rules.{rules}
-use Rattle.materiallines.proofs.LineLaws.{gauge_length, gauge_line_written}
+-- The line is its four fields, written in turn.
+use Rattle.text.proofs.Pages.{first_fits, rest_fits, both_wrote}
+use Rattle.materiallines.specs.Lines.{gauge_line}
 use Rattle.materiallines.proofs.lines.write_gauge.Goals as goal
 
-pub write_field-wide-requires : goal.write_field-wide-requires
-write_field-wide-requires c =
-    let a = c.args in
-    omega (arith, gauge_length a.number a.width a.height a.area)
+pub field-requires : goal.field-requires
+unfolding gauge_line
+field-requires c = first_fits _ _ _ c.requires
 
-pub write_field-high-requires : goal.write_field-high-requires
-write_field-high-requires c =
-    let a = c.args in
-    omega (arith, gauge_length a.number a.width a.height a.area)
+pub field-requires-2 : goal.field-requires-2
+unfolding gauge_line
+field-requires-2 c = first_fits _ _ _ (rest_fits _ _ _ _ c.field.ensures c.requires)
 
-pub write_field-next-requires : goal.write_field-next-requires
-write_field-next-requires c =
-    let a = c.args in
-    omega (arith, gauge_length a.number a.width a.height a.area)
+pub field-requires-3 : goal.field-requires-3
+unfolding gauge_line
+field-requires-3 c =
+    first_fits _ _ _ (rest_fits _ _ _ _ c.field-2.ensures (rest_fits _ _ _ _ c.field.ensures c.requires))
 
-pub write_field-requires : goal.write_field-requires
-write_field-requires c =
-    let a = c.args in
-    omega (arith, gauge_length a.number a.width a.height a.area)
+pub field-requires-4 : goal.field-requires-4
+unfolding gauge_line
+field-requires-4 c =
+    rest_fits _ _ _ _ c.field-3.ensures (rest_fits _ _ _ _ c.field-2.ensures (rest_fits _ _ _ _ c.field.ensures c.requires))
 
 pub returns : goal.returns
-returns c = search (rules, gauge_line_written)
+unfolding gauge_line
+returns c =
+    both_wrote _ _ _ _ c.field.ensures _
+    (both_wrote _ _ _ _ c.field-2.ensures _ (both_wrote _ _ _ _ c.field-3.ensures _ c.field-4.ensures))

@@ -1,29 +1,29 @@
 -- `materiallines::sheet::write_sheet` meets its contract.
--- The whole text fits, so each part of it does, and appended in turn from the buffer's start they are the sheet, by `sheet_is_printed`.
+-- The whole text fits, so each part of it does, and written in turn on a new page they are the sheet, by `sheet_is_printed`.
 use native.Mathlib.Omega.{arith}
 use borrow.Author.Rules.{rules}
-use Rattle.materiallines.proofs.SheetParts.{listable, used_inside, used_room, blank_room, face_room, sheet_is_printed}
+use Rattle.materiallines.proofs.SheetParts.{listable, used_inside, used_fits, blank_line_fits, face_fits, sheet_is_printed}
 use Rattle.materiallines.proofs.sheet.write_sheet.Goals as goal
 
-pub write_gauges-gauged-requires : goal.write_gauges-gauged-requires
-write_gauges-gauged-requires c = search (rules, listable)
+pub write_gauges-requires : goal.write_gauges-requires
+write_gauges-requires c = listable _ c.args.face (omega arith) _ c.requires _ c.new-page.ensures
 
-pub write_named-first-requires : goal.write_named-first-requires
-write_named-first-requires c =
-    used_room _ _ c.args.face (omega arith) c.requires _ c.total_area-used.ensures _ _ c.write_gauges-gauged.ensures
+pub named-requires : goal.named-requires
+named-requires c =
+    used_fits _ c.args.face (omega arith) _ c.requires _ c.new-page.ensures _ c.total_area-used.ensures _ c.write_gauges.ensures
 
 pub overflow_sub-face : goal.overflow_sub-face
 overflow_sub-face c =
-    used_inside _ _ c.args.face (omega arith) c.requires _ c.total_area-used.ensures _ _ c.write_gauges-gauged.ensures
+    used_inside _ c.args.face (omega arith) _ c.requires _ c.new-page.ensures _ c.total_area-used.ensures
 
-pub write_named-second-requires : goal.write_named-second-requires
-write_named-second-requires c =
-    blank_room _ _ c.args.face (omega arith) c.requires _ c.total_area-used.ensures _ _ c.write_gauges-gauged.ensures _ _ c.write_named-first.ensures
+pub named-requires-2 : goal.named-requires-2
+named-requires-2 c =
+    blank_line_fits _ c.args.face (omega arith) _ c.requires _ c.new-page.ensures _ c.total_area-used.ensures _ c.write_gauges.ensures _ c.named.ensures
 
-pub write_named-requires : goal.write_named-requires
-write_named-requires c =
-    face_room _ _ c.args.face (omega arith) c.requires _ c.total_area-used.ensures _ _ c.write_gauges-gauged.ensures _ _ c.write_named-first.ensures _ _ c.write_named-second.ensures
+pub named-requires-3 : goal.named-requires-3
+named-requires-3 c =
+    face_fits _ c.args.face (omega arith) _ c.requires _ c.new-page.ensures _ c.total_area-used.ensures _ c.write_gauges.ensures _ c.named.ensures _ c.named-2.ensures
 
 pub returns : goal.returns
 returns c =
-    sheet_is_printed _ _ c.args.face (omega arith) c.requires _ c.total_area-used.ensures _ _ c.write_gauges-gauged.ensures _ _ c.write_named-first.ensures _ _ c.write_named-second.ensures _ _ c.write_named.ensures
+    sheet_is_printed _ c.args.face (omega arith) _ c.requires _ c.new-page.ensures _ c.total_area-used.ensures _ c.write_gauges.ensures _ c.named.ensures _ c.named-2.ensures _ c.named-3.ensures _ (search rules)

@@ -1,24 +1,21 @@
 -- `rendering::lines::write_best` meets its contract.
--- The three fields fit where the line fits, and appended in turn they are it, by `best_line_written`.
-use native.Mathlib.Omega.{arith}
-use borrow.Author.Rules.{rules}
-use Rattle.rendering.proofs.LineLaws.{best_length, best_line_written}
+-- The line is its three fields, written in turn.
+use Rattle.text.proofs.Pages.{first_fits, rest_fits, both_wrote}
+use Rattle.rendering.specs.Text.{best_line}
 use Rattle.rendering.proofs.lines.write_best.Goals as goal
 
-pub write_named-named-requires : goal.write_named-named-requires
-write_named-named-requires c =
-    let a = c.args in
-    omega (arith, best_length a.height a.width a.area)
+pub named-requires : goal.named-requires
+unfolding best_line
+named-requires c = first_fits _ _ _ c.requires
 
-pub write_field-next-requires : goal.write_field-next-requires
-write_field-next-requires c =
-    let a = c.args in
-    omega (arith, best_length a.height a.width a.area)
+pub field-requires : goal.field-requires
+unfolding best_line
+field-requires c = first_fits _ _ _ (rest_fits _ _ _ _ c.named.ensures c.requires)
 
-pub write_field-requires : goal.write_field-requires
-write_field-requires c =
-    let a = c.args in
-    omega (arith, best_length a.height a.width a.area)
+pub field-requires-2 : goal.field-requires-2
+unfolding best_line
+field-requires-2 c = rest_fits _ _ _ _ c.field.ensures (rest_fits _ _ _ _ c.named.ensures c.requires)
 
 pub returns : goal.returns
-returns c = search (rules, best_line_written)
+unfolding best_line
+returns c = both_wrote _ _ _ _ c.named.ensures _ (both_wrote _ _ _ _ c.field.ensures _ c.field-2.ensures)

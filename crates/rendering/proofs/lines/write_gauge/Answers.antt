@@ -1,29 +1,29 @@
 -- `rendering::lines::write_gauge` meets its contract.
--- The four fields fit where the line fits, and appended in turn they are it, by `gauge_line_written`.
-use native.Mathlib.Omega.{arith}
-use borrow.Author.Rules.{rules}
-use Rattle.rendering.proofs.LineLaws.{gauge_length, gauge_line_written}
+-- The line is its four fields, written in turn.
+use Rattle.text.proofs.Pages.{first_fits, rest_fits, both_wrote}
+use Rattle.rendering.specs.Text.{gauge_line}
 use Rattle.rendering.proofs.lines.write_gauge.Goals as goal
 
-pub write_named-sized-requires : goal.write_named-sized-requires
-write_named-sized-requires c =
-    let a = c.args in
-    omega (arith, gauge_length a.number a.size a.across a.up)
+pub named-requires : goal.named-requires
+unfolding gauge_line
+named-requires c = first_fits _ _ _ c.requires
 
-pub write_named-placed-requires : goal.write_named-placed-requires
-write_named-placed-requires c =
-    let a = c.args in
-    omega (arith, gauge_length a.number a.size a.across a.up)
+pub named-requires-2 : goal.named-requires-2
+unfolding gauge_line
+named-requires-2 c = first_fits _ _ _ (rest_fits _ _ _ _ c.named.ensures c.requires)
 
-pub write_named-next-requires : goal.write_named-next-requires
-write_named-next-requires c =
-    let a = c.args in
-    omega (arith, gauge_length a.number a.size a.across a.up)
+pub named-requires-3 : goal.named-requires-3
+unfolding gauge_line
+named-requires-3 c =
+    first_fits _ _ _ (rest_fits _ _ _ _ c.named-2.ensures (rest_fits _ _ _ _ c.named.ensures c.requires))
 
-pub write_field-requires : goal.write_field-requires
-write_field-requires c =
-    let a = c.args in
-    omega (arith, gauge_length a.number a.size a.across a.up)
+pub field-requires : goal.field-requires
+unfolding gauge_line
+field-requires c =
+    rest_fits _ _ _ _ c.named-3.ensures (rest_fits _ _ _ _ c.named-2.ensures (rest_fits _ _ _ _ c.named.ensures c.requires))
 
 pub returns : goal.returns
-returns c = search (rules, gauge_line_written)
+unfolding gauge_line
+returns c =
+    both_wrote _ _ _ _ c.named.ensures _
+    (both_wrote _ _ _ _ c.named-2.ensures _ (both_wrote _ _ _ _ c.named-3.ensures _ c.field.ensures))

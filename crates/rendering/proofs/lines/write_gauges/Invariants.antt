@@ -1,11 +1,9 @@
 -- `rendering::lines::write_gauges` meets its contract.
--- The loop keeps `GaugesDue`, that the lines of the gauges left complete the lines of all; the measure is the number of the gauges left.
-use Prim.Native.Nat.{◌-◌}
+-- The loop keeps `GaugesDue`, that the lines of the gauges left complete the lines of all.
 use Rattle.rendering.proofs.Rows.{GaugesDue}
 use Rattle.rendering.proofs.lines.write_gauges.Given as goal
 
-abbrev pub invariant-loop-k : goal.invariant-loop-k
-invariant-loop-k l = GaugesDue l.initial.text l.at l.layout l.text l.next l.k
-
-abbrev pub decreases-loop-k : goal.decreases-loop-k
-decreases-loop-k l = l.count - l.k
+abbrev pub invariant-loop-words : goal.invariant-loop-words
+invariant-loop-words l =
+    (goal.iterator-loop-words).can_next l.words-iterator × (goal.iterator-loop-words).is_finite l.words-iterator
+    × GaugesDue l.initial.page l.layout l.words-iterator l.number l.page

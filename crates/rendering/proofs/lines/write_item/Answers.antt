@@ -1,19 +1,17 @@
 -- `rendering::lines::write_item` meets its contract.
--- The two fields fit where the line fits, and appended in turn they are it, by `item_line_written`.
-use native.Mathlib.Omega.{arith}
-use borrow.Author.Rules.{rules}
-use Rattle.rendering.proofs.LineLaws.{item_length, item_line_written}
+-- The line is its two fields, written in turn.
+use Rattle.text.proofs.Pages.{first_fits, rest_fits, both_wrote}
+use Rattle.rendering.specs.Text.{item_line}
 use Rattle.rendering.proofs.lines.write_item.Goals as goal
 
-pub write_field-next-requires : goal.write_field-next-requires
-write_field-next-requires c =
-    let a = c.args in
-    omega (arith, item_length a.height a.width)
+pub field-requires : goal.field-requires
+unfolding item_line
+field-requires c = first_fits _ _ _ c.requires
 
-pub write_field-requires : goal.write_field-requires
-write_field-requires c =
-    let a = c.args in
-    omega (arith, item_length a.height a.width)
+pub field-requires-2 : goal.field-requires-2
+unfolding item_line
+field-requires-2 c = rest_fits _ _ _ _ c.field.ensures c.requires
 
 pub returns : goal.returns
-returns c = search (rules, item_line_written)
+unfolding item_line
+returns c = both_wrote _ _ _ _ c.field.ensures _ c.field-2.ensures

@@ -1,17 +1,24 @@
 -- `rendering::lines::write_items` meets its contract.
--- The loop keeps `ItemsDue`, that the lines of the items left complete the lines of all; the measure is the number of the items left.
+-- The loop keeps `ItemsDue`, that the lines of the items left complete the lines of all.
 use borrow.Author.Rules.{rules}
-use Rattle.rendering.proofs.Rows.{items_start, items_room, items_more, items_done}
+use native.Mathlib.Omega.{arith}
+use Rattle.rendering.proofs.Rows.{items_start, item_fits, items_more, items_done}
 use Rattle.rendering.proofs.lines.write_items.Goals as goal
 
-pub loop-k-init : goal.loop-k-init
-loop-k-init c = search (rules, items_start)
+pub loop-item-init : goal.loop-item-init
+loop-item-init c = search (rules, items_start)
 
-pub write_item-next-requires : goal.write_item-next-requires
-write_item-next-requires c = search (rules, items_room)
+pub write_item-requires : goal.write_item-requires
+write_item-requires c =
+    let step = c.in-Some.ensures.steps in
+    item_fits _ _ _ _ c.loop-item.invariant.2 _ c.next.new.self step.0 step.1.0 step.1.1
 
-pub loop-k-preserved : goal.loop-k-preserved
-loop-k-preserved c = search (rules, items_more)
+pub loop-item-preserved : goal.loop-item-preserved
+loop-item-preserved c =
+    let step = c.in-Some.ensures.steps in
+    let more = items_more _ _ _ _ c.loop-item.invariant.2 _ c.next.new.self step.0 step.1.0 step.1.1 _ c.write_item.ensures in
+    let two = more.two in
+    (omega arith, tt, more)
 
 pub returns : goal.returns
-returns c = search (rules, items_done)
+returns c = items_done _ _ _ _ c.loop-item.invariant.2 c.in-None.ensures.steps.1.0
