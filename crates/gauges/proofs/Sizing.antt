@@ -1,86 +1,67 @@
--- What the loop that writes a gauge's sizes keeps: the words of the sizes left, stored from the place reached, give what all of them give from the start.
--- A turn stores the two words of the first size left, and at the end none is left; before them stand the gauge's kind and its number of sizes.
-use mathlib.Core.Path.{◌≡◌, refl, sym, ap, ◌∙◌}
-use mathlib.Core.List.{List, ◌∷◌}
-use Prim.Native.Nat.{ℕ, suc, ◌+◌, ◌*◌, ◌≤◌, ◌<◌}
+-- What the loop that writes the words of a gauge's sizes keeps: the words of the sizes left complete those of all.
+-- A turn writes the two words of the first size left, and at the end none is left.
+use mathlib.Core.Path.{◌≡◌, sym, ap, subst, ◌∙◌}
+use mathlib.Core.List.{List, [], ◌∷◌}
+use Prim.Native.Nat.{ℕ, suc, ◌+◌, ◌≤◌, ◌<◌}
 use native.Mathlib.Numerals.{add-one}
 use native.Mathlib.Omega.{arith}
-use lib.ListN.{length, set, drop, drop_of_length-le}
-use lib.Seq.{sets, drop-cons}
+use lib.ListN.{drop, drop_of_length-le}
+use lib.Seq.{drop-cons}
 use Rattle.slicing.specs.Item.{Item, size}
 use Rattle.slicing.specs.Tree.{gauge}
 use Rattle.sizes.specs.declared.Size.{Size}
 use Rattle.sizes.specs.inside.Sizes.{sizes_in, SizeIn}
 use Rattle.sizes.proofs.SizesIn.{in_length}
 use Rattle.writing.specs.Words.{list_words}
-use Rattle.writing.specs.inside.Writing.{item_at}
-use Rattle.writing.proofs.WordLaws.{words_length, sets_more, length_item}
 use Rattle.written.specs.EntriesOf.{entries_of}
-use Rattle.text.specs.inside.Appending.{Appended}
-use Rattle.text.proofs.Appends.{appended_length}
+use Rattle.text.specs.declared.page.Page.{Page}
+use Rattle.text.specs.inside.Writing.{Fits, Wrote}
+use Rattle.text.proofs.Dues.{Due, due_start, due_fits, due_more, due_done}
 
-pub record Sizing (old : List ℕ) (at : ℕ) (bytes : List ℕ) (count : ℕ) (text : List ℕ) (next k : ℕ) : Type 0 where
-  pub within : k ≤ count
-  pub long : length text ≡ length old
-  pub place : next ≡ at + 2 * k
-  pub rest : sets text next (list_words (drop k (sizes_in count bytes))) ≡ sets old at (list_words (sizes_in count bytes))
+-- k sizes are written.
+abbrev pub Sizing : Page ℕ → List ℕ → ℕ → ℕ → Page ℕ → Type 0
+Sizing old bytes count k now = Due old (list_words (sizes_in count bytes)) (list_words (drop k (sizes_in count bytes))) now
 
-pub sizing_start : (old : List ℕ) (at : ℕ) (bytes : List ℕ) (count : ℕ) → Sizing old at bytes count old at 0
-sizing_start old at bytes count =
-    record { within = omega arith; long = refl; place = omega arith; rest = refl }
+module _ (old : Page ℕ) (bytes : List ℕ) (count : ℕ) where
+  pub sizing_start : Fits old (list_words (sizes_in count bytes)) → Sizing old bytes count 0 old
+  sizing_start fits = due_start old (list_words (sizes_in count bytes)) fits
 
-module _ (old : List ℕ) (at : ℕ) (bytes : List ℕ) (count : ℕ) (text : List ℕ) (next k : ℕ) (s : Sizing old at bytes count text next k) where
-  abbrev sizes : List Item
-  sizes = sizes_in count bytes
+  module _ (k : ℕ) (now : Page ℕ) (s : Sizing old bytes count k now) where
+    module _ (more : k < count) (z : Size) (here : SizeIn bytes k z) where
+      abbrev later : List ℕ
+      later = list_words (drop (k + 1) (sizes_in count bytes))
 
-  module _ (more : k < count) (z : Size) (here : SizeIn bytes k z) where
-    first_left : list_words (drop k sizes) ≡ z.height ∷ z.width ∷ list_words (drop (k + 1) sizes)
+      first_left : list_words (drop k (sizes_in count bytes)) ≡ z.height ∷ z.width ∷ later
+      unfolding list_words
+      first_left =
+          ap list_words (drop-cons (sizes_in count bytes) k (size 0 0) (omega (arith, in_length count bytes)))
+          ∙ ap (λ (y : Item). list_words (y ∷ drop (suc k) (sizes_in count bytes))) (sym (here.same count more))
+          ∙ ap (λ (n : ℕ). z.height ∷ z.width ∷ list_words (drop n (sizes_in count bytes))) (sym (add-one k))
+
+      next_due : Due old (list_words (sizes_in count bytes)) (z.height ∷ z.width ∷ later) now
+      next_due = subst (λ (l : List ℕ). Due old (list_words (sizes_in count bytes)) l now) first_left s
+
+      pub height_room : Fits now (z.height ∷ [])
+      height_room = due_fits old (list_words (sizes_in count bytes)) (z.height ∷ []) (z.width ∷ later) now next_due
+
+      module _ (mid : Page ℕ) (t : Wrote now (z.height ∷ []) mid) where
+        width_due : Due old (list_words (sizes_in count bytes)) (z.width ∷ later) mid
+        width_due = due_more old (list_words (sizes_in count bytes)) (z.height ∷ []) (z.width ∷ later) now next_due mid t
+
+        pub width_room : Fits mid (z.width ∷ [])
+        width_room = due_fits old (list_words (sizes_in count bytes)) (z.width ∷ []) later mid width_due
+
+        pub sizing_more : (new : Page ℕ) → Wrote mid (z.width ∷ []) new → Sizing old bytes count (k + 1) new
+        sizing_more new u = due_more old (list_words (sizes_in count bytes)) (z.width ∷ []) later mid width_due new u
+
+    pub sizing_done : count ≤ k → Wrote old (list_words (sizes_in count bytes)) now
     unfolding list_words
-    first_left =
-        ap list_words (drop-cons sizes k (size 0 0) (omega (arith, in_length count bytes)))
-        ∙ ap (λ (y : Item). list_words (y ∷ drop (suc k) sizes)) (sym (here.same count more))
-        ∙ ap (λ (n : ℕ). z.height ∷ z.width ∷ list_words (drop n sizes)) (sym (add-one k))
+    sizing_done end =
+        let many = in_length count bytes in
+        let none = drop_of_length-le (sizes_in count bytes) (omega arith) in
+        due_done old (list_words (sizes_in count bytes)) now
+        (subst (λ (l : List Item). Due old (list_words (sizes_in count bytes)) (list_words l) now) none s)
 
-    pub sizing_more : Sizing old at bytes count (set (set text next z.height) (next + 1) z.width) (next + 2) (k + 1)
-    unfolding item_at
-    sizing_more =
-        let place = s.place in
-        record {
-          within = omega arith;
-          long = length_item text next z.height z.width ∙ s.long;
-          place = omega arith;
-          rest =
-              sets_more text next z.height z.width (list_words (drop (k + 1) sizes))
-              ∙ ap (λ (ws : List ℕ). sets text next ws) (sym first_left)
-              ∙ s.rest;
-        }
-
-  pub sizing_done : count ≤ k → Appended old at (list_words (sizes_in count bytes)) text next
-  unfolding list_words
-  sizing_done end =
-      let within = s.within in
-      let place = s.place in
-      let many = in_length count bytes in
-      let all : length sizes ≤ k = omega arith in
-      record {
-        place = omega (arith, words_length sizes);
-        text = ap (λ (l : List Item). sets text next (list_words l)) (sym (drop_of_length-le sizes all)) ∙ s.rest;
-      }
-
--- The kind and the number of sizes, and then the sizes.
-module _ (old : List ℕ) (at : ℕ) (bytes : List ℕ) (count : ℕ) (new : List ℕ) (next : ℕ) (s : Appended (set (set old at 0x01) (at + 1) count) (at + 2) (list_words (sizes_in count bytes)) new next) where
-  pub gauge_put : Appended old at (entries_of list_words (gauge (sizes_in count bytes))) new next
-  unfolding item_at
-  gauge_put =
-      let words = list_words (sizes_in count bytes) in
-      let place = s.place in
-      record {
-        place = omega arith;
-        text =
-            s.text ∙ sets_more old at 0x01 count words
-            ∙ ap (λ (n : ℕ). sets old at (0x01 ∷ n ∷ words)) (sym (in_length count bytes));
-      }
-
-  pub gauge_long : length new ≡ length old
-  unfolding item_at
-  gauge_long = appended_length s ∙ length_item old at 0x01 count
+-- There are as many sizes as the count.
+pub gauge_same : (count : ℕ) (bytes : List ℕ) → entries_of list_words (gauge (sizes_in count bytes)) ≡ 0x01 ∷ count ∷ list_words (sizes_in count bytes)
+gauge_same count bytes = ap (λ (n : ℕ). 0x01 ∷ n ∷ list_words (sizes_in count bytes)) (in_length count bytes)

@@ -1,38 +1,33 @@
-// The words of a gauge, written into a buffer at a place. Each function asks room for the very words that it writes, and
-// answers the place after them.
-ghost use Rattle.std.specs.Prelude.{◌+◌, ◌*◌, ◌≤◌, length};
+// The words of a gauge, written on a page. Each function asks room for the very words that it writes.
+ghost use Rattle.std.specs.Prelude.{◌≤◌};
 ghost use Rattle.slicing.specs.Tree.{gauge};
 ghost use Rattle.writing.specs.Words.{list_words};
 ghost use Rattle.sizes.specs.inside.Sizes.{sizes_in, Sized};
 ghost use Rattle.written.specs.EntriesOf.{entries_of};
-ghost use Rattle.text.specs.inside.Appending.{Appended};
+ghost use Rattle.text.specs.inside.Writing.{Fits, Wrote};
 
 use entries::GAUGE;
 use sizes::size_in;
+use text::page::Page;
 
 // The heights and widths of so many sizes that stand in bytes.
-fn put_sizes(output: &mut [u32], at: usize, sizes: &[u8], count: usize) -> usize
-    requires { Sized count sizes.now × (at + 2 * count ≤ length output.old) }
-    ensures { Appended output.old at (list_words (sizes_in count sizes.now)) output.new result }
+fn put_sizes(page: &mut Page<'_, u32>, sizes: &[u8], count: usize)
+    requires { Sized count sizes.now × Fits page.old (list_words (sizes_in count sizes.now)) }
+    ensures { Wrote page.old (list_words (sizes_in count sizes.now)) page.new }
 {
-    let mut next = at;
-    let mut k = 0;
-    while k < count {
+    for k in 0..count {
         let z = size_in(sizes, k);
-        output[next] = z.height;
-        output[next + 1] = z.width;
-        next += 2;
-        k += 1;
+        page.put(z.height);
+        page.put(z.width);
     }
-    next
 }
 
 // A gauge: its kind, its number of sizes, and the sizes.
-pub fn put_gauge(output: &mut [u32], at: usize, sizes: &[u8], count: usize) -> usize
-    requires { (count ≤ 8) × Sized count sizes.now × (at + 2 + 2 * count ≤ length output.old) }
-    ensures { Appended output.old at (entries_of list_words (gauge (sizes_in count sizes.now))) output.new result }
+pub fn put_gauge(page: &mut Page<'_, u32>, sizes: &[u8], count: usize)
+    requires { (count ≤ 8) × Sized count sizes.now × Fits page.old (entries_of list_words (gauge (sizes_in count sizes.now))) }
+    ensures { Wrote page.old (entries_of list_words (gauge (sizes_in count sizes.now))) page.new }
 {
-    output[at] = GAUGE as u32;
-    output[at + 1] = count as u32;
-    put_sizes(output, at + 2, sizes, count)
+    page.put(GAUGE as u32);
+    page.put(count as u32);
+    put_sizes(page, sizes, count);
 }

@@ -44,12 +44,17 @@ module _ (buffer : MutBor (List ℕ)) (p : Page ℕ) (empty : p ≡ blank buffer
 
   -- In the end the buffer is as the last page has it.
   module _ (q : Page ℕ) (s : Wrote p bytes q) (new : List ℕ) (end : new ≡ q.buffer.now) where
-    from_blank : Appended buffer.now 0 bytes new q.at
-    from_blank =
+    pub blank_wrote : Appended buffer.now 0 bytes new q.at
+    blank_wrote =
         subst (λ (l : List ℕ). Appended buffer.now 0 bytes l q.at) (sym end) (subst (λ (x : Page ℕ). Wrote x bytes q) empty s).appended
 
     pub blank_printed : length bytes ≤ length buffer.now → Printed bytes buffer.now new q.at
-    blank_printed room = from_start from_blank room
+    blank_printed room = from_start blank_wrote room
 
     pub blank_counted : (most : ℕ) → length bytes ≤ most → most ≤ length buffer.now → Counted most new q.at
-    blank_counted most few room = counted from_blank few room
+    blank_counted most few room = counted blank_wrote few room
+
+-- What was written on a page, as what is left of its buffer.
+pub wrote_at : {A : Type 0} (p : Page A) (values : List A) (q : Page A) → Wrote p values q → (new : List A) → new ≡ q.buffer.now → Appended p.buffer.now p.at values new q.at
+wrote_at {A} p values q s new end =
+    subst (λ (l : List A). Appended p.buffer.now p.at values l q.at) (sym end) s.appended

@@ -1,13 +1,12 @@
 -- `gauges::file_bytes::write_field` meets its contract.
--- Its two stores are the field's two bytes.
-use borrow.Author.Rules.{rules}
-use native.Mathlib.Omega.{arith}
-use lib.ListN.{length-set}
-use Rattle.gauges.proofs.FileBytes.{field_written}
+-- What it copies are the field's two bytes, by `last_two`.
+use Rattle.text.proofs.Pages.{same_fit, same_wrote}
+use mathlib.Core.Path.{sym}
+use Rattle.gauges.proofs.FileBytes.{last_two}
 use Rattle.gauges.proofs.file_bytes.write_field.Goals as goal
 
-pub bounds-output-at-2 : goal.bounds-output-at-2
-bounds-output-at-2 c = simp length-set (omega arith)
+pub copy-requires : goal.copy-requires
+copy-requires c = same_fit _ _ _ (sym (last_two _ _ c.requires.0 c.to_be_bytes-bytes.ensures)) c.requires.1
 
 pub returns : goal.returns
-returns c = search (rules, field_written)
+returns c = same_wrote _ _ _ _ (last_two _ _ c.requires.0 c.to_be_bytes-bytes.ensures) c.copy.ensures

@@ -1,18 +1,33 @@
 -- `gauges::file_bytes::write_sizes` meets its contract.
--- The loop keeps `SizesWritten`, that the first k sizes are written; the measure is the number of those left.
+-- The loop keeps `SizesDue`, that the fields of the sizes left complete those of all.
 use borrow.Author.Rules.{rules}
-use Rattle.gauges.proofs.FileBytes.{sizes_start, sizes_room, sizes_more, sizes_done}
+use native.Mathlib.Omega.{arith}
+use Rattle.gauges.proofs.FileBytes.{sizes_start, height_fits, width_fits, height_room, width_room, sizes_more, sizes_done}
 use Rattle.gauges.proofs.file_bytes.write_sizes.Goals as goal
 
-pub loop-k-init : goal.loop-k-init
-loop-k-init c = search (rules, sizes_start)
+pub loop-size-init : goal.loop-size-init
+loop-size-init c = search (rules, sizes_start)
 
-pub write_size-next-requires : goal.write_size-next-requires
-write_size-next-requires c =
-    sizes_room _ _ _ _ _ _ c.loop-k.invariant _ _ c.loop-k-test.true c.size_at.ensures (search rules)
+pub write_field-requires : goal.write_field-requires
+write_field-requires c =
+    let step = c.in-Some.ensures.steps in (
+      height_fits _ _ _ _ c.loop-size.invariant.2 _ c.next.new.self step.0 step.1.0 step.1.1,
+      height_room _ _ _ _ c.loop-size.invariant.2 _ c.next.new.self step.0 step.1.0 step.1.1,
+    )
 
-pub loop-k-preserved : goal.loop-k-preserved
-loop-k-preserved c = search (rules, sizes_more)
+pub write_field-requires-in-loop-size : goal.write_field-requires-in-loop-size
+write_field-requires-in-loop-size c =
+    let step = c.in-Some.ensures.steps in (
+      width_fits _ _ _ _ c.loop-size.invariant.2 _ c.next.new.self step.0 step.1.0 step.1.1,
+      width_room _ _ _ _ c.loop-size.invariant.2 _ c.next.new.self step.0 step.1.0 step.1.1 _ c.write_field.ensures,
+    )
+
+pub loop-size-preserved : goal.loop-size-preserved
+loop-size-preserved c =
+    let step = c.in-Some.ensures.steps in
+    let more = sizes_more _ _ _ _ c.loop-size.invariant.2 _ c.next.new.self step.0 step.1.0 step.1.1 _ c.write_field.ensures _ c.write_field-in-loop-size.ensures in
+    let pairs = more.pairs in
+    (omega arith, tt, more)
 
 pub returns : goal.returns
-returns c = search (rules, sizes_done)
+returns c = sizes_done _ _ _ _ c.loop-size.invariant.2 c.in-None.ensures.steps.1.0

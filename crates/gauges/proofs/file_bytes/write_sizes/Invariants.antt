@@ -1,11 +1,9 @@
 -- `gauges::file_bytes::write_sizes` meets its contract.
--- The loop keeps `SizesWritten`, that the first k sizes are written; the measure is the number of those left.
-use Prim.Native.Nat.{◌-◌}
-use Rattle.gauges.proofs.FileBytes.{SizesWritten}
+-- The loop keeps `SizesDue`, that the fields of the sizes left complete those of all.
+use Rattle.gauges.proofs.FileBytes.{SizesDue}
 use Rattle.gauges.proofs.file_bytes.write_sizes.Given as goal
 
-abbrev pub invariant-loop-k : goal.invariant-loop-k
-invariant-loop-k l = SizesWritten l.initial.output l.at l.sizes l.output l.next l.k
-
-abbrev pub decreases-loop-k : goal.decreases-loop-k
-decreases-loop-k l = l.count - l.k
+abbrev pub invariant-loop-size : goal.invariant-loop-size
+invariant-loop-size l =
+    (goal.iterator-loop-size).can_next l.size-iterator × (goal.iterator-loop-size).is_finite l.size-iterator
+    × SizesDue l.initial.page l.sizes l.size-iterator l.page

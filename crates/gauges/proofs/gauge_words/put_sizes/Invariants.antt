@@ -1,11 +1,7 @@
--- `gauges::gauge_words::put_sizes` meets its contract: the words of the sizes are appended.
--- The loop keeps `Sizing`, that the sizes left give what all of them give; the measure is the number of sizes left.
-use Prim.Native.Nat.{◌-◌}
+-- `gauges::gauge_words::put_sizes` meets its contract: the words of the sizes are written.
+-- The loop keeps `Sizing`, that the words of the sizes left complete those of all.
 use Rattle.gauges.proofs.Sizing.{Sizing}
 use Rattle.gauges.proofs.gauge_words.put_sizes.Given as goal
 
 abbrev pub invariant-loop-k : goal.invariant-loop-k
-invariant-loop-k l = Sizing l.initial.output l.at l.sizes l.count l.output l.next l.k
-
-abbrev pub decreases-loop-k : goal.decreases-loop-k
-decreases-loop-k l = l.count - l.k
+invariant-loop-k l = Sizing l.initial.page l.sizes l.count l.k l.page
