@@ -7,28 +7,22 @@ ghost use Rattle.loading.specs.inside.Loading.{Placed, Loadable, Loaded};
 use arena::words::{BACK, FORWARD, LEVEL, M, P, store};
 use building::empty::clear_head;
 use building::prepend::prepend;
-use sizes::size_in;
+use sizes::{Size, size_in};
 
-// A byte as a word.
-fn word_of(x: u8) -> u32
-    ensures { (result ≡ x) × (result < 256) }
-{
-    x as u32
-}
-
-// Fills record r and puts it before the list of a head, whose first record so far is `last`.
-fn load_record(arena: &mut [u32], head: usize, r: usize, last: u32, level: u32, m: u32, p: u32)
+// Fills record r with its level and a size, m the height and p the width, and puts it before the list of a head, whose
+// first record so far is `last`.
+fn load_record(arena: &mut [u32], head: usize, r: usize, last: u32, level: u32, size: Size)
     requires { Hookable arena.old head r × (1 ≤ level) × (level ≤ 8) }
-    ensures { Placed arena.old head r last level m p arena.new }
+    ensures { Placed arena.old head r last level size.height size.width arena.new }
 {
     store(arena, r, LEVEL, level);
-    store(arena, r, M, m);
-    store(arena, r, P, p);
+    store(arena, r, M, size.height);
+    store(arena, r, P, size.width);
     store(arena, r, FORWARD, last);
     prepend(arena, head, r);
 }
 
-// Makes the list of a head of the useful sizes, four bytes a size: m is the height and p the width. The digits of `order`
+// Makes the list of a head of the useful sizes, four bytes a size. The digits of `order`
 // name them, and each has its level and the record of its number from `first` on. The head's first forward is kept beside
 // the arena and stored at the end. The list grows at its top: each new record is the back word of the one after it, and
 // the first of all, which will be the last item, that of the head.
@@ -42,14 +36,14 @@ pub fn load(arena: &mut [u32], head: usize, first: usize, sizes: &[u8], levels: 
     let mut left = order;
     while 0 < left {
         let k = (left % 16) as usize - 1;
-        let level = word_of(levels[k]);
-        let z = size_in(sizes, k);
+        let level = u32::from(levels[k]);
+        let size = size_in(sizes, k);
         let r = first + k;
-        load_record(arena, head, r, last, level, z.height, z.width);
+        load_record(arena, head, r, last, level, size);
         last = r as u32;
         store(arena, after, BACK, last);
         after = r;
-        left = left / 16;
+        left /= 16;
     }
     store(arena, head, FORWARD, last);
     store(arena, after, BACK, 0);

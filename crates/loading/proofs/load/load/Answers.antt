@@ -17,8 +17,8 @@ bounds-levels-k c =
     let named : c.loop-left.left % 16 - 1 < length c.args.levels.now = loading_place _ _ _ _ _ _ _ _ _ _ c.loop-left.invariant c.loop-left-test.true in
     let low = named in search rules
 
-pub size_in-z-requires : goal.size_in-z-requires
-size_in-z-requires c =
+pub size_in-size-requires : goal.size_in-size-requires
+size_in-size-requires c =
     let named : c.loop-left.left % 16 - 1 < length c.args.levels.now = loading_place _ _ _ _ _ _ _ _ _ _ c.loop-left.invariant c.loop-left-test.true in
     (_, c.loop-left.invariant.can.bytes, named)
 
@@ -32,8 +32,8 @@ load_record-requires c =
     let named : c.loop-left.left % 16 - 1 < length c.args.levels.now = loading_place _ _ _ _ _ _ _ _ _ _ c.loop-left.invariant c.loop-left-test.true in
     let can = c.loop-left.invariant.can in
     let place = named in
-    let low = loading_low _ _ _ _ _ _ _ _ can place c.word_of-level.ensures.0 in
-    let high = loading_high _ _ _ _ _ _ _ _ can place c.word_of-level.ensures.0 in
+    let low = loading_low _ _ _ _ _ _ _ _ can place c.from-level.ensures in
+    let high = loading_high _ _ _ _ _ _ _ _ can place c.from-level.ensures in
     let apart = can.apart _ place in
     search rules
 
@@ -49,7 +49,7 @@ store-requires c =
 
 pub loop-left-preserved : goal.loop-left-preserved
 loop-left-preserved c =
-    loading_more _ _ _ _ _ _ _ _ _ _ c.loop-left.invariant c.loop-left-test.true _ _ _ c.word_of-level.ensures.0 c.size_in-z.ensures c.load_record.ensures _ c.store.ensures
+    loading_more _ _ _ _ _ _ _ _ _ _ c.loop-left.invariant c.loop-left-test.true _ _ _ c.from-level.ensures c.size_in-size.ensures c.load_record.ensures _ c.store.ensures
 
 pub store-requires-3 : goal.store-requires-3
 store-requires-3 c =
