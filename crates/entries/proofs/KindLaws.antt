@@ -1,16 +1,20 @@
 -- Laws of the kinds of entries: each has its own number, and a number that is none of theirs is refused.
 -- All hold by cases on the three kinds.
-use mathlib.Core.Path.{◌≡◌, refl}
+use mathlib.Core.Path.{◌≡◌, refl, sym, ap}
 use mathlib.Core.Bool.{Bool, true, false, cond, not, beq}
 use Prim.Native.Nat.{ℕ, ◌<◌}
 use native.Mathlib.Omega.{arith}
 use lib.Dec.{eqb}
 use denote.Enum.Bare.{sameb}
 use borrow.Author.Tests.{eqb-true}
+use Rattle.checks.specs.declared.Check.{Check}
 use Rattle.checks.specs.declared.Check.TheVariants.{Kind as no_kind}
 use Rattle.checks.specs.Answer.{Answer, refused, taken}
 use Rattle.checks.proofs.Answers.{same_taken, not_both}
 use Rattle.slicing.specs.Tree.{Tree, gauge, beside, stacked}
+use Rattle.sizes.specs.Rules.{Rules}
+use Rattle.sizes.proofs.SizeChecks.{same_refused}
+use Rattle.entries.specs.Entry.{State, gauge_entry, join_entry, kind_entry}
 use Rattle.entries.specs.contracts.kinds.Kind.{the_type}
 use Rattle.entries.specs.declared.kinds.Kind.{Kind}
 use Rattle.entries.specs.declared.kinds.Kind.TheVariants.{Gauge, Beside, Stacked}
@@ -46,6 +50,17 @@ number_is n k e = by (eqb n 0x01) (eqb n 0x02) (eqb n 0x03) (eqb-true n 0x01) (e
     by false true c x y z e = rw (← same_taken Beside k e) (y refl)
     by false false true x y z e = rw (← same_taken Stacked k e) (z refl)
     by false false false x y z e = absurd (not_both no_kind k e)
+
+-- A number that stands for no kind is refused, and so is the entry.
+pub kind_unknown : (rules : Rules) (n : ℕ) (e : Check) (s : State) → refused e ≡ kind_numbered n → kind_entry rules n s ≡ refused e
+unfolding kind_entry
+kind_unknown rules n e s h = by (eqb n 0x01) (eqb n 0x02) (eqb n 0x03) h
+  where
+    by : (a b c : Bool) → ◌≡◌ {A = Answer Kind} (refused e) (cond a (taken Gauge) (cond b (taken Beside) (cond c (taken Stacked) (refused no_kind)))) → cond a (gauge_entry rules s) (cond b (join_entry beside s) (cond c (join_entry stacked s) (refused no_kind))) ≡ refused e
+    by true b c h = absurd (not_both e Gauge h)
+    by false true c h = absurd (not_both e Beside h)
+    by false false true h = absurd (not_both e Stacked h)
+    by false false false h = ap (λ (k : Check). refused k) (sym (same_refused e no_kind h))
 
 pub last_number : (t : Tree) → byte_of (last_kind t) ≡ kind_of t
 last_number (gauge s) = refl

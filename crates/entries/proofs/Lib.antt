@@ -3,3 +3,4 @@ pub mod Stacks
 pub mod Entries
 pub mod Across
 pub mod KindLaws
+pub mod Reading

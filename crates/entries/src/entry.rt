@@ -1,36 +1,46 @@
-// One entry of a file of some version, read from a cursor. Each function does what the definition of the same entry
-// says, from any state that the cursor stands for.
-ghost use Rattle.std.specs.Prelude.{◌≡◌, List, ℕ, ◌+◌, ◌<◌, ◌^◌};
+// The entries, read from a cursor. Each function does what the definition of the same entry says, from any state that
+// the cursor stands for.
+ghost use Rattle.std.specs.Prelude.{◌≡◌, List, ℕ, ◌+◌, ◌<◌, ◌≤◌, ◌^◌, length};
 ghost use Rattle.slicing.specs.Tree.{beside, stacked};
-ghost use Rattle.sizes.specs.GaugeSizes.{version_rules};
-ghost use Rattle.entries.specs.Entry.{join_entry, entry};
-ghost use Rattle.entries.specs.inside.Tracking.{Fair, Does, advance};
+ghost use Rattle.entries.specs.Entry.{join_entry, entry, entries};
+ghost use Rattle.entries.specs.inside.Tracking.{Fair, Follows, Does, advance, begun, unit_at};
 
 use crate::gauge::read_gauge;
-use crate::{BESIDE, Cursor, GAUGE, STACKED, Step};
+use crate::{Cursor, Kind, Units};
+use checks::Check;
 
-// The cursor so many bytes on.
-pub fn advanced(c: Cursor, bytes: usize) -> Cursor
-    requires { c.at + bytes < 2 ^ 63 }
-    ensures { result ≡ advance c bytes }
+// The cursor so many units on.
+fn advanced(c: Cursor, units: usize) -> Cursor
+    requires { c.at + units < 2 ^ 64 }
+    ensures { result ≡ advance c units }
 {
     Cursor {
-        at: c.at + bytes,
+        at: c.at + units,
         parts: c.parts,
         gauges: c.gauges,
         sizes: c.sizes,
     }
 }
 
-// A join, after its kind. It hangs on the number of parts alone, so it serves bytes and words.
-pub fn read_join(c: Cursor) -> Step
+// The unit at the cursor, if it is present (check 5), and the cursor after it.
+pub fn read_unit<U: Units + Copy>(units: U, c: Cursor) -> Result<(u32, Cursor), Check>
+    ensures { result ≡ unit_at (U.numbers units) c }
+{
+    if units.len() <= c.at {
+        return Err(Check::Present);
+    }
+    Ok((units.unit(c.at), advanced(c, 1)))
+}
+
+// A join, after its kind. It hangs on the number of parts alone.
+fn read_join(c: Cursor) -> Result<Cursor, Check>
     ensures as_beside { (l : List ℕ) → Fair l c → Does (join_entry beside) l c result }
     ensures as_stacked { (l : List ℕ) → Fair l c → Does (join_entry stacked) l c result }
 {
     if c.parts < 2 {
-        return Step::Stop(checks::JOIN);
+        return Err(Check::Join);
     }
-    Step::Next(Cursor {
+    Ok(Cursor {
         at: c.at,
         parts: c.parts - 1,
         gauges: c.gauges,
@@ -39,24 +49,30 @@ pub fn read_join(c: Cursor) -> Step
 }
 
 // A whole entry.
-pub fn read_entry(file: &[u8], version: u32, c: Cursor) -> Step
-    requires { Fair file.now c }
-    ensures { Does (entry (version_rules version)) file.now c result }
+fn read_entry<U: Units + Copy>(units: U, c: Cursor) -> Result<Cursor, Check>
+    requires { Fair (U.numbers units) c }
+    ensures { Does (entry (U.rules units)) (U.numbers units) c result }
 {
-    let at = c.at;
-    if file.len() <= at {
-        return Step::Stop(checks::PRESENT);
+    let (kind, after) = read_unit(units, c)?;
+    match Kind::try_from(kind)? {
+        Kind::Gauge => read_gauge(units, after),
+        Kind::Beside | Kind::Stacked => read_join(after),
     }
-    let kind = file[at];
-    let after = advanced(c, 1);
-    if kind == GAUGE {
-        return read_gauge(file, version, after);
+}
+
+// So many entries from a place on, taken in turn.
+pub fn read_entries<U: Units + Copy>(units: U, from: usize, count: usize) -> Result<Cursor, Check>
+    requires { from ≤ length (U.numbers units) }
+    ensures { Follows (U.numbers units) (entries (U.rules units) count (begun (U.numbers units) from)) result }
+{
+    let mut c = Cursor {
+        at: from,
+        parts: 0,
+        gauges: 0,
+        sizes: 0,
+    };
+    for _ in 0..count {
+        c = read_entry(units, c)?;
     }
-    if kind == BESIDE {
-        return read_join(after);
-    }
-    if kind == STACKED {
-        return read_join(after);
-    }
-    Step::Stop(checks::KIND)
+    Ok(c)
 }

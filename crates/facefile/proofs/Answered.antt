@@ -1,6 +1,6 @@
 -- What a caller of the reader knows: with the number 0 the file means a tree, whose gauges and sizes the answer counts; with any other it is refused by the check of that number.
 -- The answer is the definition's, and no check has the number 0.
-use mathlib.Core.Path.{◌≡◌, refl, sym, ap, ap₂, ◌∙◌}
+use mathlib.Core.Path.{◌≡◌, refl, sym, ap, ◌∙◌}
 use mathlib.Core.Bool.{true, false}
 use mathlib.Core.List.{List, []}
 use Prim.Native.Nat.{ℕ, zero, suc, ◌<◌}
@@ -42,17 +42,6 @@ pub answer_refused : (f : Face) (a : Answer Tree) → f ≡ summary a → (f.num
 unfolding summary
 answer_refused f (refused c) e h = (c, refl, ap (λ (x : Face). x.number) e)
 answer_refused f (taken t) e h = absurd (h (ap (λ (x : Face). x.number) e))
-
--- The same answer as a check or what is counted.
-pub counted_refused : (f : Face) (a : Answer Tree) → f ≡ summary a → (f.number ≡ 0 → ⊥) → (k : Check) → ((c : Check) → f.number ≡ number_of c → k ≡ c) → ◌≡◌ {A = Answer Counted} (refused k) (counted a)
-unfolding counted
-counted_refused f a e h k is = let bad = answer_refused f a e h in rw (bad.1) (ap (λ (c : Check). refused c) (is bad.0 bad.2))
-
-pub counted_taken : (f : Face) (a : Answer Tree) → f ≡ summary a → f.number ≡ 0 → ◌≡◌ {A = Answer Counted} (taken (record { gauges = f.gauges; sizes = f.sizes })) (counted a)
-unfolding counted summary
-counted_taken f (refused c) e z = absurd (let n = ap (λ (x : Face). x.number) e in let p = number_positive c in omega arith)
-counted_taken f (taken t) e z =
-    ap₂ (λ (g s : ℕ). taken (record { gauges = g; sizes = s })) (ap (λ (x : Face). x.gauges) e) (ap (λ (x : Face). x.sizes) e)
 
 -- For the gauge-bytes call.
 pub face_tree : (a : Answer Counted) (file : List ℕ) → a ≡ counted (face_of file) → is_err a ≡ false → (t : Tree) × (face_of file ≡ taken t)

@@ -14,6 +14,11 @@ counted (taken t) = taken (record { gauges = gauge_count t; sizes = size_count t
 abbrev pub refused_face : ℕ → Face
 refused_face n = record { number = n; gauges = 0; sizes = 0 }
 
+-- The answer as a number with the counts beside it.
+abbrev pub answered : Answer Counts → Face
+answered (refused c) = refused_face (number_of c)
+answered (taken k) = record { number = 0; gauges = k.gauges; sizes = k.sizes }
+
 unfoldable pub summary : Answer Tree → Face
 summary (refused c) = refused_face (number_of c)
 summary (taken t) = record { number = 0; gauges = gauge_count t; sizes = size_count t }

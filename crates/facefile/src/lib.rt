@@ -2,6 +2,7 @@
 // bytes of a gauge.
 #![tactic(auto)]
 
+mod bytes;
 pub mod entry;
 pub mod reader;
 mod size_bytes;

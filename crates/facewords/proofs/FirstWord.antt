@@ -8,29 +8,29 @@ use native.Mathlib.Omega.{arith}
 use lib.ListN.{length, get_or}
 use lib.Dec.{ltb}
 use borrow.Author.Tests.{lt-ltb, le-ltb, ltb-true, not-true, not-false}
-use Rattle.checks.specs.Answer.{Answer, taken, next, number}
-use Rattle.checks.proofs.Answers.{same_taken, ask_taken, number_taken, number_refused}
+use Rattle.checks.specs.Answer.{Answer, refused, taken, next}
+use Rattle.checks.specs.declared.Check.{Check}
+use Rattle.checks.specs.declared.Check.TheVariants.{Present, Entries}
+use Rattle.checks.proofs.Answers.{same_taken, ask_taken}
 use Rattle.sizes.specs.GaugeSizes.{within}
 use Rattle.sizes.proofs.SizeChecks.{within_true}
 use Rattle.entries.specs.Entry.{entries}
 use Rattle.facefile.specs.Format.{at_end}
-use Rattle.facefile.specs.Summary.{refused_face, summary}
-use Rattle.facefile.specs.declared.Face.{Face}
-use Rattle.facefile.proofs.Reading.{summary_refused}
+use Rattle.facefile.specs.Summary.{counted}
 use Rattle.facewords.specs.Words.{word_rules, first_word, words_start, words_face}
 
 -- One law for each way out.
 module _ (words : List ℕ) where
-  pub first_missing : length words < 1 → 5 ≡ number (first_word words)
+  pub first_missing : length words < 1 → refused Present ≡ first_word words
   unfolding first_word
   first_missing none = simp (le-ltb 0 (length words) (omega arith))
 
   module _ (some : 1 ≤ length words) (b : Bool) (e : b ≡ within 1 127 (get_or words 0 0)) where
-    pub first_out : not b ≡ true → 4 ≡ number (first_word words)
+    pub first_out : not b ≡ true → refused Entries ≡ first_word words
     unfolding first_word
     first_out out = simp (lt-ltb 0 (length words) some, sym e ∙ not-true b out)
 
-    pub first_fine : not b ≡ false → 0 ≡ number (first_word words)
+    pub first_fine : not b ≡ false → taken (get_or words 0 0) ≡ first_word words
     unfolding first_word
     first_fine fine = simp (lt-ltb 0 (length words) some, sym e ∙ not-false b fine)
 
@@ -53,22 +53,17 @@ first_taken words count e =
     }
 
 -- All words, by the first.
-module _ (words : List ℕ) (n : ℕ) (first : n ≡ number (first_word words)) where
-  pub first_there : n ≡ 0 → 1 ≤ length words
-  first_there z =
-      let good = number_taken (first_word words) (sym first ∙ z) in (first_taken words good.0 good.1).some
+pub read_first : (words : List ℕ) (e : Check) → refused e ≡ first_word words → refused e ≡ counted (words_face words)
+unfolding words_face counted
+read_first words e first =
+    ap (λ (a : Answer ℕ). counted (next a (λ count. next (entries word_rules count (words_start words)) at_end))) first
 
-  pub read_first : (f : Face) → (n ≡ 0 → ⊥) → f ≡ refused_face n → f ≡ summary (words_face words)
-  unfolding words_face
-  read_first f h g =
-      let bad = number_refused (first_word words) n first h in
-      summary_refused f n bad.0 g bad.2
-      ∙ ap (λ (a : Answer ℕ). summary (next a (λ count. next (entries word_rules count (words_start words)) at_end))) (sym bad.1)
+module _ (words : List ℕ) (k : ℕ) (first : taken k ≡ first_word words) where
+  pub first_there : 1 ≤ length words
+  first_there = (first_taken words k (sym first)).some
 
-  pub counted : (k : ℕ) → n ≡ 0 → k ≡ get_or words 0 0 → next (entries word_rules k (words_start words)) at_end ≡ words_face words
+  pub by_count : (j : ℕ) → j ≡ k → next (entries word_rules j (words_start words)) at_end ≡ words_face words
   unfolding words_face
-  counted k z count =
-      let good = number_taken (first_word words) (sym first ∙ z) in
-      let same = (first_taken words good.0 good.1).is in
-      ap (λ (j : ℕ). next (entries word_rules j (words_start words)) at_end) (count ∙ same)
-      ∙ ap (λ (a : Answer ℕ). next a (λ j. next (entries word_rules j (words_start words)) at_end)) (sym good.1)
+  by_count j same =
+      ap (λ (i : ℕ). next (entries word_rules i (words_start words)) at_end) same
+      ∙ ap (λ (a : Answer ℕ). next a (λ i. next (entries word_rules i (words_start words)) at_end)) first

@@ -1,12 +1,12 @@
 // The sizes of a gauge in words, two words a size, and check 8.
 ghost use Rattle.std.specs.Prelude.{◌≡◌, ◌+◌, ◌*◌, ◌≤◌, length, drop};
-ghost use Rattle.checks.specs.Answer.{number};
 ghost use Rattle.slicing.specs.Item.{size};
 ghost use Rattle.sizes.specs.GaugeSizes.{sizes_from};
+ghost use Rattle.sizes.specs.inside.Sizes.{asked};
 ghost use Rattle.facewords.specs.Words.{size_in_words, word_rules};
 
+use checks::Check;
 use sizes::Size;
-use sizes::questions::is_limited;
 
 // The size at a place: its height, then its width.
 pub fn size_at(words: &[u32], at: usize) -> Size
@@ -19,17 +19,13 @@ pub fn size_at(words: &[u32], at: usize) -> Size
     }
 }
 
-// Check 8 of the sizes at a place, taken in turn: its number where one of them fails it, or 0.
-pub fn sizes_number(words: &[u32], at: usize, count: usize) -> u32
+// Check 8 of the sizes at a place, taken in turn.
+pub fn ask_limits(words: &[u32], at: usize, count: usize) -> Result<(), Check>
     requires { (1 ≤ count) × (count ≤ 8) × (at + 2 * count ≤ length words.now) }
-    ensures { result ≡ number (sizes_from word_rules count (drop at words.now)) }
+    ensures { result ≡ asked (sizes_from word_rules count (drop at words.now)) }
 {
-    let mut i = 0;
-    while i < count {
-        if !is_limited(size_at(words, at + 2 * i)) {
-            return checks::LIMITS;
-        }
-        i += 1;
+    for i in 0..count {
+        size_at(words, at + 2 * i).limits()?;
     }
-    checks::TAKEN
+    Ok(())
 }

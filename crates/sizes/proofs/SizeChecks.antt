@@ -1,5 +1,5 @@
 -- The tests of a size by their answers, a size at its place, and what the sizes from any one on answer.
--- A test of two parts is the second where the first holds, and the first where it does not; the number of a chain of questions is that of what follows once a question is answered "yes".
+-- A test of two parts is the second where the first holds, and the first where it does not; the check of a chain of questions is that of what follows once a question is answered "yes".
 use mathlib.Core.Path.{◌≡◌, refl, sym, ap, ◌∙◌}
 use mathlib.Core.Bool.{Bool, true, false, and-eq-true_iff}
 use mathlib.Core.List.{List, ◌∷◌}
@@ -12,9 +12,12 @@ use borrow.Author.Tests.{le-leb, lt-leb, lt-ltb, le-ltb, leb-true}
 use lib.Seq.{drop-drop, get_or-drop}
 use Rattle.checks.specs.declared.Check.{Check}
 use Rattle.checks.specs.declared.Check.TheVariants.{Limits, Order}
-use Rattle.checks.specs.Answer.{Answer, refused, taken, ask, next, number}
+use Rattle.checks.specs.Answer.{Answer, refused, taken, ask, next, Asked}
+use Rattle.std.specs.Result.{IsErrAnd}
+use Rattle.checks.proofs.Answers.{not_both}
 use Rattle.slicing.specs.Item.{Item, size}
 use Rattle.sizes.specs.Rules.{Rules}
+use Rattle.sizes.specs.inside.Sizes.{asked}
 use Rattle.sizes.specs.GaugeSizes.{field, within, limited, ordered, in_order, size_at, sizes_after, sizes_from}
 
 -- Answers of `a && b`: where a holds it is b, and where it does not it is a.
@@ -59,16 +62,38 @@ size_below step s at k =
     let e : at + step * k + step ≡ at + step * (k + 1) = omega arith in
     rw (drop-drop, e)
 
--- The number of a chain of questions does not hang on what is made of that which is taken.
-number_next : {A B : Type 0} (a : Answer A) (f : A → B) → number (next a (λ x. taken (f x))) ≡ number a
-number_next (refused c) f = refl
-number_next (taken x) f = refl
+-- The check of a chain of questions does not hang on what is made of that which is taken.
+asked_next : {A B : Type 0} (a : Answer A) (f : A → B) → asked (next a (λ x. taken (f x))) ≡ asked a
+asked_next (refused c) f = refl
+asked_next (taken x) f = refl
 
-pub number_ask : {A B : Type 0} (l : Bool) (c : Check) (a : Answer A) (b : Answer B) → number a ≡ number b → number (ask l c a) ≡ number (ask l c b)
-number_ask true c a b e = e
-number_ask false c a b e = refl
+pub asked_ask : {A B : Type 0} (l : Bool) (c : Check) (a : Answer A) (b : Answer B) → asked a ≡ asked b → asked (ask l c a) ≡ asked (ask l c b)
+asked_ask true c a b e = e
+asked_ask false c a b e = refl
 
--- Size i of those at `at`, which is z, and those after it: the number of the sizes from i on, with no size before them and with one.
+-- What a `?` answers with is the check that it was given.
+pub passed_on : {A : Type 0} (r : Answer A) (e : Check) → IsErrAnd r (λ f. f ≡ e) → r ≡ refused e
+passed_on (refused c) e h = ap (λ (k : Check). refused k) h
+passed_on (taken x) e h = absurd h
+
+pub same_refused : {A : Type 0} (c e : Check) → ◌≡◌ {A = Answer A} (refused c) (refused e) → c ≡ e
+same_refused c e h = cc
+
+-- What was asked is refused by the same check, and taken where it is.
+pub asked_refused : {A : Type 0} (a : Answer A) (e : Check) → asked a ≡ refused e → a ≡ refused e
+asked_refused (refused c) e h = ap (λ (k : Check). refused k) (same_refused {A = Unit {0}} c e h)
+asked_refused (taken x) e h = absurd (not_both {A = Unit {0}} e tt (sym h))
+
+pub asked_taken : {A : Type 0} (a : Answer A) (u : Unit {0}) → asked a ≡ taken u → (x : A) × (a ≡ taken x)
+asked_taken (refused c) u h = absurd (not_both {A = Unit {0}} c u h)
+asked_taken (taken x) u h = (x, refl)
+
+-- Check 8 fails before whatever is asked after it.
+pub limits_no : {A : Type 0} (a : Answer A) (l : Bool) (e : Check) → ◌≡◌ {A = Asked} (ask l Limits (taken tt)) (refused e) → refused e ≡ asked (ask l Limits a)
+limits_no a true e h = absurd (not_both {A = Unit {0}} e tt (sym h))
+limits_no a false e h = sym h
+
+-- Size i of those at `at`, which is z, and those after it: the check of the sizes from i on, with no size before them and with one.
 module _ (rules : Rules) (s : List ℕ) (at count i : ℕ) (more : i < count) (z : Item) (here : z ≡ rules.size_of (drop (at + rules.step * i) s)) where
   abbrev bytes : List ℕ
   bytes = drop (at + rules.step * i) s
@@ -79,21 +104,21 @@ module _ (rules : Rules) (s : List ℕ) (at count i : ℕ) (more : i < count) (z
   steps : count - i ≡ suc (count - (i + 1))
   steps = omega arith
 
-  rest : number (next (sizes_after rules (rules.size_of bytes) (count - (i + 1)) (drop rules.step bytes)) (λ zs. taken (rules.size_of bytes ∷ zs))) ≡ number later
+  rest : asked (next (sizes_after rules (rules.size_of bytes) (count - (i + 1)) (drop rules.step bytes)) (λ zs. taken (rules.size_of bytes ∷ zs))) ≡ asked later
   rest =
-      number_next (sizes_after rules (rules.size_of bytes) (count - (i + 1)) (drop rules.step bytes)) (λ zs. rules.size_of bytes ∷ zs)
+      asked_next (sizes_after rules (rules.size_of bytes) (count - (i + 1)) (drop rules.step bytes)) (λ zs. rules.size_of bytes ∷ zs)
       ∙ rw (size_below rules.step s at i, here)
 
-  pub first_size : number (sizes_from rules (count - i) bytes) ≡ number (ask (limited z) Limits later)
+  pub first_size : asked (sizes_from rules (count - i) bytes) ≡ asked (ask (limited z) Limits later)
   unfolding sizes_from
   first_size =
-      ap (λ (n : ℕ). number (sizes_from rules n bytes)) steps
-      ∙ number_ask (limited (rules.size_of bytes)) Limits _ later rest
-      ∙ ap (λ (x : Item). number (ask (limited x) Limits later)) (sym here)
+      ap (λ (n : ℕ). asked (sizes_from rules n bytes)) steps
+      ∙ asked_ask (limited (rules.size_of bytes)) Limits _ later rest
+      ∙ ap (λ (x : Item). asked (ask (limited x) Limits later)) (sym here)
 
-  pub later_size : (y : Item) → number (sizes_after rules y (count - i) bytes) ≡ number (ask (limited z) Limits (ask (in_order rules y z) Order later))
+  pub later_size : (y : Item) → asked (sizes_after rules y (count - i) bytes) ≡ asked (ask (limited z) Limits (ask (in_order rules y z) Order later))
   unfolding sizes_after
   later_size y =
-      ap (λ (n : ℕ). number (sizes_after rules y n bytes)) steps
-      ∙ number_ask (limited (rules.size_of bytes)) Limits _ _ (number_ask (in_order rules y (rules.size_of bytes)) Order _ later rest)
-      ∙ ap (λ (x : Item). number (ask (limited x) Limits (ask (in_order rules y x) Order later))) (sym here)
+      ap (λ (n : ℕ). asked (sizes_after rules y n bytes)) steps
+      ∙ asked_ask (limited (rules.size_of bytes)) Limits _ _ (asked_ask (in_order rules y (rules.size_of bytes)) Order _ later rest)
+      ∙ ap (λ (x : Item). asked (ask (limited x) Limits (ask (in_order rules y x) Order later))) (sym here)

@@ -6,19 +6,12 @@ ghost use Rattle.sizes.specs.inside.Sizes.{Sized, SizeIn};
 
 use crate::Size;
 
-// A byte as a wider number.
-pub fn wide(x: u8) -> u32
-    ensures { (result ≡ x) × (result < 256) }
-{
-    x as u32
-}
-
 // The 16-bit field at a place, the high byte first.
 pub fn field(file: &[u8], at: usize) -> u32
     requires { at + 2 ≤ length file.now }
     ensures { (result ≡ field file.now at) × (result < 65536) }
 {
-    256 * wide(file[at]) + wide(file[at + 1])
+    256 * u32::from(file[at]) + u32::from(file[at + 1])
 }
 
 // The size at a place: its height, then its width.

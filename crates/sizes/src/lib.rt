@@ -7,7 +7,7 @@ pub mod questions;
 pub use field::{is_within, size_in};
 
 // A height and a width.
-#[derive(Clone, Copy)]
+#[derive(Clone, Copy, PartialEq, Eq)]
 pub struct Size {
     pub height: u32,
     pub width: u32,

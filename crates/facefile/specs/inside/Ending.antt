@@ -4,9 +4,10 @@ use Rattle.entries.specs.Entry.{State}
 use Rattle.entries.specs.declared.Cursor.{Cursor}
 use Rattle.entries.specs.inside.Tracking.{Tracks}
 use Rattle.facefile.specs.Format.{at_end}
-use Rattle.facefile.specs.Summary.{summary}
-use Rattle.facefile.specs.declared.Face.{Face}
+use Rattle.checks.specs.Answer.{Answer}
+use Rattle.facefile.specs.Summary.{counted}
+use Rattle.facefile.specs.declared.Counts.{Counts}
 
 -- From any state that the cursor stands for, the answer after the last entry is r.
-unfoldable pub Ends : List ℕ → Cursor → Face → Type 0
-Ends file c r = (s : State) → Tracks file c s → r ≡ summary (at_end s)
+unfoldable pub Ends : List ℕ → Cursor → Answer Counts → Type 0
+Ends file c r = (s : State) → Tracks file c s → r ≡ counted (at_end s)

@@ -1,14 +1,14 @@
--- The number of checks 8 and 9 on one size, and the sizes that stand in bytes, four bytes a size: a height and a width. No public contract cites it.
-use Rattle.std.specs.Prelude.{◌≡◌, Bool, List, [], ◌∷◌, ℕ, zero, suc, ◌*◌, ◌<◌, length, get_or, drop}
-use Rattle.checks.specs.declared.Check.TheVariants.{Limits, Order}
-use Rattle.checks.specs.Answer.{taken, ask, number}
+-- What a run of questions answers when nothing but its checks is asked for, and the sizes that stand in bytes, four bytes a size: a height and a width. No public contract cites it.
+use Rattle.std.specs.Prelude.{◌≡◌, List, [], ◌∷◌, ℕ, zero, suc, ◌*◌, ◌<◌, length, get_or, drop}
+use Rattle.checks.specs.Answer.{Answer, refused, taken, Asked}
 use Rattle.slicing.specs.Item.{Item, size}
 use Rattle.sizes.specs.GaugeSizes.{size_at}
 use Rattle.sizes.specs.declared.Size.{Size}
 
--- The number of checks 8 and 9 on one size, by its two tests.
-abbrev pub size_number : Bool → Bool → ℕ
-size_number limits order = number (ask limits Limits (ask order Order (taken (tt {0}))))
+-- Whether each question was answered "yes", whatever was taken.
+abbrev pub asked : {A : Type 0} → Answer A → Asked
+asked (refused c) = refused c
+asked (taken x) = taken tt
 
 -- The first n sizes of what is read, each of which takes `step` bytes or words and is what `size_of` finds there.
 abbrev pub sizes_by : ℕ → (List ℕ → Item) → ℕ → List ℕ → List Item

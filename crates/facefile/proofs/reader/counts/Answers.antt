@@ -1,12 +1,27 @@
 -- `facefile::reader::counts` meets its contract.
--- The number of a refused file is that of one check, and of a taken file the reader has counted what there is.
-use Rattle.facefile.specs.Format.{face_of}
-use Rattle.facefile.proofs.Answered.{counted_refused, counted_taken}
+-- For each way out a law of `Reading` takes what the parts of the file answered.
+use native.Mathlib.Omega.{arith}
+use Rattle.sizes.proofs.SizeChecks.{passed_on}
+use Rattle.facefile.proofs.Reading.{read_header, header_long, headed, read_stop, read_fair, read_next}
+use borrow.Author.Rules.{rules}
 use Rattle.facefile.proofs.reader.counts.Goals as goal
 
-pub returns-then-face-ne-TAKEN : goal.returns-then-face-ne-TAKEN
-returns-then-face-ne-TAKEN c =
-    counted_refused _ (face_of c.args.file.now) c.read-face.ensures c.if-face-ne-TAKEN.true c.check_of.result c.check_of.ensures
+pub returns-in_err-count : goal.returns-in_err-count
+returns-in_err-count c =
+    rw (passed_on c.from_residual.result c.in_err-count.field-0.0 c.from_residual.ensures.1) (read_header _ _ c.in_err-count.ensures)
+
+pub field-requires : goal.field-requires
+field-requires c = omega (arith, header_long c.args.file.now _ c.in_ok-count.ensures)
+
+pub read_entries-requires : goal.read_entries-requires
+read_entries-requires c = header_long _ _ c.in_ok-count.ensures
+
+pub returns-in_err-end : goal.returns-in_err-end
+returns-in_err-end c =
+    rw (passed_on c.from_residual-in_err-end.result c.in_err-end.field-0.0 c.from_residual-in_err-end.ensures.1)
+    (read_stop _ _ _ _ _ c.read_entries.ensures _ (headed c.args.file.now _ c.in_ok-count.ensures _ c.field.ensures.0) _ c.in_err-end.was)
 
 pub returns : goal.returns
-returns c = counted_taken _ (face_of c.args.file.now) c.read-face.ensures c.if-face-ne-TAKEN.false
+returns c =
+    read_next _ _ _ _ _ c.read_entries.ensures _ (headed c.args.file.now _ c.in_ok-count.ensures _ c.field.ensures.0) _ _ c.in_ok-end.was
+    (c.read_end.ensures c.args.file.now (search rules) (read_fair _ _ _ _ _ c.read_entries.ensures _ c.in_ok-end.was))

@@ -6,11 +6,10 @@ use borrow.Author.Rules.{rules}
 use Rattle.facefile.proofs.reader.read_end.Goals as goal
 
 pub returns-then-c-ne1 : goal.returns-then-c-ne1
-returns-then-c-ne1 c = λ l total fair. end_parts l _ _ (search rules) (search rules)
+returns-then-c-ne1 c = λ l total fair. end_parts l _ (search rules)
 
 pub returns-then-c-total : goal.returns-then-c-total
-returns-then-c-total c =
-    λ l total fair. end_left l _ _ (search rules) fair (search rules) (λ e. c.if-c-total.true (e ∙ total))
+returns-then-c-total c = λ l total fair. end_left l _ fair (search rules) (λ e. c.if-c-total.true (e ∙ total))
 
 pub returns : goal.returns
 returns c = λ l total fair. end_taken l _ (search rules) (search rules)

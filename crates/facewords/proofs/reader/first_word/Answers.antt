@@ -1,8 +1,8 @@
--- `facewords::reader::first_number` meets its contract.
+-- `facewords::reader::first_word` meets its contract.
 -- For each way out a law of `FirstWord` takes the tests that lead to it.
 use borrow.Author.Rules.{rules}
 use Rattle.facewords.proofs.FirstWord.{first_missing, first_out, first_fine}
-use Rattle.facewords.proofs.reader.first_number.Goals as goal
+use Rattle.facewords.proofs.reader.first_word.Goals as goal
 
 pub returns-then-words-lt1 : goal.returns-then-words-lt1
 returns-then-words-lt1 c = search (rules, first_missing)

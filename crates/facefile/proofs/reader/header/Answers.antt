@@ -1,8 +1,8 @@
--- `facefile::reader::header_number` meets its contract.
+-- `facefile::reader::header` meets its contract.
 -- For each way out a law of `Reading` takes the tests that lead to it.
 use Rattle.facefile.proofs.Reading.{header_short, header_unmarked, header_version, header_count, header_good}
 use borrow.Author.Rules.{rules}
-use Rattle.facefile.proofs.reader.header_number.Goals as goal
+use Rattle.facefile.proofs.reader.header.Goals as goal
 
 pub returns-then-file-lt7 : goal.returns-then-file-lt7
 returns-then-file-lt7 c = search (rules, header_short)
