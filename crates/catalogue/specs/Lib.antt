@@ -1,3 +1,4 @@
 pub mod Heights
 pub mod Catalogue
 pub mod CatalogueMeans
+pub mod inside
