@@ -1,150 +1,128 @@
--- What the walk for the depths keeps: the two arrays hold, from the oldest part on the stack to the newest, its least and its most depth.
--- A gauge is put after the parts that are there, and a join changes the last two places alone.
+-- What the walk for the depths keeps: the array holds, from the oldest part on the stack to the newest, its depths.
+-- A gauge is put after the parts that are there, and a join takes the place of the older of its two parts.
 use mathlib.Core.Path.{◌≡◌, refl, ap, ap₂, subst, ◌∙◌}
 use mathlib.Core.List.{List, [], ◌∷◌}
-use Prim.Native.Nat.{ℕ, ◌+◌, ◌-◌, ◌≤◌, ◌<◌, min, max}
+use Prim.Native.Nat.{ℕ, ◌+◌, ◌-◌, ◌≤◌, ◌<◌}
 use native.Mathlib.Omega.{arith}
-use lib.ListN.{length, get_or, set}
+use lib.ListN.{length, get_or, set, drop}
+use Rattle.std.specs.Prelude.{Option, Some, None}
+use Rattle.std.specs.Borrow.{Bor}
 use Rattle.checks.specs.Answer.{taken}
-use Rattle.slicing.specs.Item.{Item}
-use Rattle.slicing.specs.Tree.{Tree, gauge, least_depth, most_depth}
+use Rattle.slicing.specs.Tree.{Tree, least_depth, most_depth}
 use Rattle.slicing.proofs.Depths.{depth_few, least_most}
-use Rattle.facefile.specs.declared.walk.GaugeEntry.{GaugeEntry}
-use Rattle.facefile.specs.declared.walk.Entry.{Entry}
-use Rattle.facefile.specs.declared.walk.Entry.TheVariants.{Gauge, Join}
+use Rattle.facefile.specs.declared.entry.Entry.{Entry}
+use Rattle.facefile.specs.declared.entry.Entry.TheVariants.{Gauge, Join}
+use Rattle.facefile.specs.declared.entry.Entries.{Entries}
 use Rattle.facefile.specs.Format.{face_of}
-use Rattle.entries.specs.inside.Kinds.{Cut, cut_beside, cut_stacked}
-use Rattle.sizes.specs.inside.Sizes.{sizes_in}
-use Rattle.facefile.specs.inside.Walk.{first_entry, size_bytes_of, GaugeAt, JoinAt, Finds}
+use Rattle.entries.specs.inside.Kinds.{byte_of, Cut, cut_beside, cut_stacked}
+use Rattle.entries.specs.declared.kinds.Kind.{Kind}
+use Rattle.facefile.specs.inside.Entries.{Walk, gauge_of, GaugeNext, JoinNext}
+use Rattle.facefile.specs.inside.Entries.Gives.{Gives}
 use Rattle.facefile.proofs.PartArray.{Column, column_start, column_push, column_older, column_newer, column_join}
-use Rattle.facefile.proofs.WalkSteps.{walk_end, found_gauge, found_join}
-use Rattle.facefile.proofs.WalkStack.{walk_face, join_gauges, Counted, counted_start, counted_room, counted_gauge, counted_two, counted_join}
-use Rattle.depths.specs.inside.Deep.{Deep, Room, joined_at}
+use Rattle.facefile.proofs.EntrySteps.{came_none, came_gauge, came_join}
+use Rattle.facefile.proofs.EntryStack.{walk_face, walk_end, join_gauges, Counted, counted_start, counted_room, counted_gauge, counted_two, counted_join}
+use Rattle.depths.specs.declared.Depths.{Depths}
+use Rattle.depths.specs.inside.Deep.{Deep, Shallow, above}
 
--- f of a join is one more than g of f of its parts.
-abbrev Joins : (Tree → ℕ) → (ℕ → ℕ → ℕ) → Type 0
-Joins f g = (kind : ℕ) (cut : Tree → Tree → Tree) (x y : Tree) → Cut kind cut → 1 + g (f x) (f y) ≡ f (cut x y)
+abbrev depths : ℕ → ℕ → Depths
+depths least most = record { least = least; most = most }
 
-least_joins : Joins least_depth min
-least_joins kind cut x y cut_beside = omega arith
-least_joins kind cut x y cut_stacked = omega arith
+-- The depths of a part, and of a gauge.
+abbrev depths_in : Tree → Depths
+depths_in t = depths (least_depth t) (most_depth t)
 
-most_joins : Joins most_depth max
-most_joins kind cut x y cut_beside = omega arith
-most_joins kind cut x y cut_stacked = omega arith
+abbrev none : Depths
+none = depths 0 0
 
-pub record Measured (file least most : List ℕ) (at parts : ℕ) : Type 0 where
+cut_depths : (kind : ℕ) (cut : Tree → Tree → Tree) (x y : Tree) → Cut kind cut → above (depths_in x) (depths_in y) ≡ depths_in (cut x y)
+cut_depths kind cut x y cut_beside = ap₂ depths (omega arith) (omega arith)
+cut_depths kind cut x y cut_stacked = ap₂ depths (omega arith) (omega arith)
+
+pub record Measured (file : List ℕ) (stack : List Depths) (rest : List ℕ) (parts : ℕ) : Type 0 where
   pub face : Tree
-  pub stack : List Tree
-  pub walked : Counted file face at stack parts
-  pub least_held : Column least_depth least stack
-  pub most_held : Column most_depth most stack
+  pub trees : List Tree
+  pub walked : Counted file face rest trees parts
+  pub held : Column none depths_in stack trees
 
-pub measured_start : (file least most : List ℕ) → (t : Tree) × (face_of file ≡ taken t) → length least ≡ 64 → length most ≡ 64 → Measured file least most first_entry 0
-measured_start file least most t l m =
+pub measured_start : (file : List ℕ) (stack : List Depths) (of it : Entries) → (t : Tree) × (face_of file ≡ taken t) → of.rest.now ≡ drop 7 file → it ≡ of → length stack ≡ 64 → Measured file stack it.rest.now 0
+measured_start file stack of it t r same long =
     record {
       face = t.0;
-      stack = [];
-      walked = counted_start file t.0 t.1;
-      least_held = column_start least_depth least l;
-      most_held = column_start most_depth most m;
+      trees = [];
+      walked = rw (same, r) (counted_start file t.0 t.1);
+      held = column_start none depths_in stack long;
     }
 
--- A column of the depths f at a join of the two newest of n parts.
-module _ (f : Tree → ℕ) (a : List ℕ) (stack : List Tree) (n : ℕ) (count : length stack ≡ n) (few : n ≤ 64) (k : Column f a stack) (x y : Tree) (rest : List Tree) (two : stack ≡ y ∷ x ∷ rest) where
-  room_of : f x < 255 → f y < 255 → Room a (n - 2)
-  room_of p q =
-      let long = k.long in
-      let both = ap length two in
-      let first = column_older f a stack n count k x y rest two in
-      let second = column_newer f a stack n count k x y rest two in
-      record { inside = omega arith; first = omega arith; second = omega arith }
-
-  joined_column : (g : ℕ → ℕ → ℕ) → Joins f g → (l : List ℕ) (kind : ℕ) (cut : Tree → Tree → Tree) → Cut kind cut → l ≡ joined_at g a (n - 2) → Column f l (cut x y ∷ rest)
-  joined_column g joins l kind cut c p =
-      column_join f a stack n count k x y rest two l _ (cut x y) few p
-      (ap₂ (λ (u v : ℕ). 1 + g u v) (column_older f a stack n count k x y rest two) (column_newer f a stack n count k x y rest two)
-      ∙ joins kind cut x y c)
-
-module _ (file least most : List ℕ) (at parts : ℕ) (k : Measured file least most at parts) where
-  module _ (r : Entry) (found : Finds file at r) where
-    module _ (g : GaugeEntry) (e : r ≡ Gauge g) where
-      abbrev here : GaugeAt file k.face at k.stack g
-      here = found_gauge file k.face at k.stack k.walked.walk r found g e
-
-      abbrev sizes : List Item
-      sizes = sizes_in g.count (size_bytes_of file g)
+module _ (file : List ℕ) (stack : List Depths) (parts : ℕ) (s t : Entries) (k : Measured file stack s.rest.now parts) where
+  module _ (r : Entry) (came : Gives s (Some r) t) where
+    module _ (sizes : Bor (List ℕ)) (e : r ≡ Gauge sizes) where
+      here : GaugeNext file k.face k.trees s.rest.now sizes.now t.rest.now
+      here = came_gauge file k.face k.trees s t k.walked.walk r came sizes e
 
       room : parts < 64
-      room = counted_room file k.face at k.stack parts k.walked g here
+      room = counted_room file k.face s.rest.now k.trees parts k.walked t.rest.now sizes.now here
 
-      pub least_gauge : parts < length least
-      least_gauge = let n = room in let l = k.least_held.long in omega arith
+      pub gauge_room : parts < length stack
+      gauge_room = let n = room in let l = k.held.long in omega arith
 
-      pub most_gauge : parts < length most
-      most_gauge = let n = room in let m = k.most_held.long in omega arith
-
-      pub measured_gauge : (l m : List ℕ) → l ≡ set least parts 0 → m ≡ set most parts 0 → Measured file l m g.next (parts + 1)
-      measured_gauge l m p q =
-          let c = k.walked.count in
+      pub measured_gauge : (l : List Depths) → l ≡ set stack parts none → Measured file l t.rest.now (parts + 1)
+      measured_gauge l p =
           record {
             face = k.face;
-            stack = gauge sizes ∷ k.stack;
-            walked = counted_gauge file k.face at k.stack parts k.walked g here;
-            least_held = column_push least_depth least k.stack parts c k.least_held l 0 (gauge sizes) room p refl;
-            most_held = column_push most_depth most k.stack parts c k.most_held m 0 (gauge sizes) room q refl;
+            trees = gauge_of sizes.now ∷ k.trees;
+            walked = counted_gauge file k.face s.rest.now k.trees parts k.walked t.rest.now sizes.now here;
+            held = column_push none depths_in stack k.trees parts k.walked.count k.held l none (gauge_of sizes.now) room p refl;
           }
 
-    module _ (kind behind : ℕ) (e : r ≡ Join kind behind) where
-      abbrev joined : JoinAt file k.face at k.stack kind behind
-      joined = found_join file k.face at k.stack k.walked.walk r found kind behind e
+    module _ (kind : Kind) (e : r ≡ Join kind) where
+      joined : JoinNext (Walk file k.face) k.trees s.rest.now kind t.rest.now
+      joined = came_join file k.face k.trees s t k.walked.walk r came kind e
 
-      pub join_parts : 2 ≤ parts
-      join_parts = counted_two file k.face at k.stack parts k.walked kind behind joined
+      pub join_two : 2 ≤ parts
+      join_two = counted_two file k.face s.rest.now k.trees parts k.walked t.rest.now kind joined
 
-      pub join_some : 1 ≤ parts
-      join_some = let two = join_parts in omega arith
+      pub join_few : parts ≤ length stack
+      join_few = let few = k.walked.few in let l = k.held.long in omega arith
+
+      older_is : get_or stack (parts - 1 - 1) none ≡ depths_in joined.older
+      older_is =
+          column_older none depths_in stack k.trees parts k.walked.count k.held joined.older joined.newer joined.below joined.two
+
+      newer_is : get_or stack (parts - 1) none ≡ depths_in joined.newer
+      newer_is =
+          column_newer none depths_in stack k.trees parts k.walked.count k.held joined.older joined.newer joined.below joined.two
 
       -- No part is deeper than 63.
-      shallow : (most_depth joined.older < 64) × (most_depth joined.newer < 64)
+      shallow : Shallow (depths_in joined.older) × Shallow (depths_in joined.newer)
       shallow =
-          let gauges = join_gauges file k.face at k.stack k.walked.walk kind behind joined in
+          let gauges = join_gauges file k.face s.rest.now k.trees k.walked.walk kind t.rest.now joined in
           let a = depth_few joined.older in
           let b = depth_few joined.newer in
-          (omega arith, omega arith)
-
-      pub least_join : Room least (parts - 2)
-      least_join =
-          let deep = shallow in
           let x = least_most joined.older in
           let y = least_most joined.newer in
-          room_of least_depth least k.stack parts k.walked.count k.walked.few k.least_held joined.older joined.newer joined.rest joined.two (omega arith) (omega arith)
+          (record { least = omega arith; most = omega arith }, record { least = omega arith; most = omega arith })
 
-      pub most_join : Room most (parts - 2)
-      most_join =
-          let deep = shallow in
-          room_of most_depth most k.stack parts k.walked.count k.walked.few k.most_held joined.older joined.newer joined.rest joined.two (omega arith) (omega arith)
+      pub join_shallow : Shallow (get_or stack (parts - 1 - 1) none) × Shallow (get_or stack (parts - 1) none)
+      join_shallow = rw (older_is, newer_is) shallow
 
-      pub measured_join : (l m : List ℕ) → l ≡ joined_at min least (parts - 2) → m ≡ joined_at max most (parts - 2) → Measured file l m behind (parts - 1)
-      measured_join l m p q =
+      pub measured_join : (l : List Depths) (d : Depths) → d ≡ above (get_or stack (parts - 1 - 1) none) (get_or stack (parts - 1) none) → l ≡ set stack (parts - 1 - 1) d → Measured file l t.rest.now (parts - 1)
+      measured_join l d is p =
           let j = joined in
           record {
             face = k.face;
-            stack = j.cut j.older j.newer ∷ j.rest;
-            walked = counted_join file k.face at k.stack parts k.walked kind behind j;
-            least_held =
-                joined_column least_depth least k.stack parts k.walked.count k.walked.few k.least_held j.older j.newer j.rest j.two
-                min least_joins l kind j.cut j.is_cut p;
-            most_held =
-                joined_column most_depth most k.stack parts k.walked.count k.walked.few k.most_held j.older j.newer j.rest j.two
-                max most_joins m kind j.cut j.is_cut q;
+            trees = j.cut j.older j.newer ∷ j.below;
+            walked = counted_join file k.face s.rest.now k.trees parts k.walked t.rest.now kind j;
+            held =
+                column_join none depths_in stack k.trees parts k.walked.count k.held j.older j.newer j.below j.two l d (j.cut j.older j.newer)
+                k.walked.few p
+                (is ∙ ap₂ above older_is newer_is ∙ cut_depths (byte_of kind) j.cut j.older j.newer j.is_cut);
           }
 
-  pub measured_end : length file ≤ at → Deep file (record { least = get_or least 0 0; most = get_or most 0 0 })
+  pub measured_end : (r : Option Entry) → r ≡ None → Gives s r t → Deep file (get_or stack 0 none)
   unfolding Deep
-  measured_end h t e =
-      let same = walk_face file k.face at k.stack k.walked.walk t e in
-      let whole : k.stack ≡ t ∷ [] = walk_end file k.face at k.stack k.walked.walk h ∙ ap (λ (x : Tree). x ∷ []) same in
-      let l = subst (λ (s : List Tree). Column least_depth least s) whole k.least_held in
-      let m = subst (λ (s : List Tree). Column most_depth most s) whole k.most_held in
-      (l.held.0, m.held.0)
+  measured_end r e came tree is =
+      let same = walk_face file k.face s.rest.now k.trees k.walked.walk tree is in
+      let over = came_none file k.face k.trees s t k.walked.walk r e came in
+      let whole : k.trees ≡ tree ∷ [] = walk_end file k.face s.rest.now k.trees k.walked.walk over ∙ ap (λ (x : Tree). x ∷ []) same in
+      let held = (subst (λ (l : List Tree). Column none depths_in stack l) whole k.held).held.0 in
+      (ap (λ (d : Depths). d.least) held, ap (λ (d : Depths). d.most) held)

@@ -29,6 +29,7 @@ use Rattle.lent.specs.Lent.{Lent, lent}
 use Rattle.lent.specs.Questions.{levels_lent, rib_given, opening_given, buffers_lent, output_lent}
 use Rattle.lent.proofs.Asking.{Levelled, levels_taken, rib_taken, buffers_taken, output_taken, levels_refused, rib_refused, opening_refused, buffers_refused, output_refused}
 use Rattle.lent.proofs.Calling.{call_refused, counts, asked_of_counts, refused_by_file, refused_by_asked, asked_taken, taken_by_all}
+use Rattle.entries.specs.declared.kinds.Kind.{Kind}
 use Rattle.parts.specs.inside.Building.{Buildable, Whole}
 use Rattle.shapes.proofs.RootLaws.{root_list}
 use Rattle.placing.specs.declared.Fitted.{Fitted}
@@ -214,7 +215,7 @@ module _ (file levels : List ℕ) (rib h w : ℕ) (arena scratch output : List �
                 room = all.long;
               }
 
-          pub fit_done : (kind : ℕ) (arena' scratch' output' : List ℕ) (r : Fitted) → ((t : Tree) → face_of file ≡ taken t → Whole file levels rib arena arena' kind t) → PlacedIn file rib o r output output' → FitLeaves answer levels rib o old r (lent arena' scratch' output')
+          pub fit_done : (kind : Kind) (arena' scratch' output' : List ℕ) (r : Fitted) → ((t : Tree) → face_of file ≡ taken t → Whole file levels rib arena arena' kind t) → PlacedIn file rib o r output output' → FitLeaves answer levels rib o old r (lent arena' scratch' output')
           unfolding fit_checks PlacedIn
           fit_done kind arena' scratch' output' r whole placed =
               let p = placed t face.face in

@@ -15,6 +15,7 @@ use Rattle.facefile.specs.Summary.{summary}
 use Rattle.facefile.proofs.Answered.{Counts}
 use Rattle.lent.specs.Lent.{Lent, lent}
 use Rattle.lent.proofs.Calling.{refusal_kept, counts, asked_of_counts, refused_by_file, refused_by_asked, asked_taken, taken_by_all}
+use Rattle.entries.specs.declared.kinds.Kind.{Kind}
 use Rattle.parts.specs.inside.Building.{Buildable, Whole}
 use Rattle.shapes.proofs.RootLaws.{root_list}
 use Rattle.fit.specs.Fitting.{fit_asks}
@@ -93,7 +94,7 @@ module _ (file levels : List ℕ) (rib h w : ℕ) (arena scratch output : List �
                 room = rw face.gauges all.long;
               }
 
-          pub sheet_left : (kind : ℕ) (arena' scratch' output' : List ℕ) (r : Printed) → ((t : Tree) → face_of file ≡ taken t → Whole file levels rib arena arena' kind t) → PrintedIn file rib o r output output' → SheetLeaves answer levels rib o old r (lent arena' scratch' output')
+          pub sheet_left : (kind : Kind) (arena' scratch' output' : List ℕ) (r : Printed) → ((t : Tree) → face_of file ≡ taken t → Whole file levels rib arena arena' kind t) → PrintedIn file rib o r output output' → SheetLeaves answer levels rib o old r (lent arena' scratch' output')
           unfolding sheet_checks PrintedIn
           sheet_left kind arena' scratch' output' r whole printed =
               let p = printed t face.face in

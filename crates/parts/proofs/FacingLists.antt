@@ -13,7 +13,10 @@ use Rattle.slicing.proofs.Depths.{depth_few}
 use Rattle.slicing.proofs.PartLists.{part_gauge, part_beside, part_stacked, shapes_stacked, recorded_ordered, turned_ordered, recorded_some, turned_some, recorded_low, turned_low, recorded_few, turned_few}
 use Rattle.parts.specs.inside.Part.{Suits}
 use Rattle.parts.specs.inside.Joining.{turned_if}
-use Rattle.entries.specs.inside.Kinds.{kind_of, across, Cut, cut_beside, cut_stacked}
+use Rattle.entries.specs.inside.Kinds.{kind_of, last_kind, byte_of, across, Cut, cut_beside, cut_stacked}
+use Rattle.entries.specs.declared.kinds.Kind.{Kind}
+use Rattle.entries.specs.declared.kinds.Kind.TheVariants.{Beside, Stacked}
+use Rattle.entries.proofs.KindLaws.{kind_same}
 
 beside_faces : (gap r : ℕ) (t : Tree) → turned_if (across (kind_of t) 0x02) (part_recorded gap r t) ≡ shapes_recorded gap r t
 unfolding across
@@ -57,6 +60,9 @@ pub cut_sizes : (kind : ℕ) (cut : Tree → Tree → Tree) → Cut kind cut →
 cut_sizes kind cut cut_beside a b = length-append (sizes_of a) (sizes_of b)
 cut_sizes kind cut cut_stacked a b = length-append (sizes_of a) (sizes_of b)
 
-pub cut_kind : (kind : ℕ) (cut : Tree → Tree → Tree) → Cut kind cut → (a b : Tree) → kind ≡ kind_of (cut a b)
-cut_kind kind cut cut_beside a b = refl
-cut_kind kind cut cut_stacked a b = refl
+pub cut_kind : (kind : Kind) (cut : Tree → Tree → Tree) → Cut (byte_of kind) cut → (a b : Tree) → kind ≡ last_kind (cut a b)
+cut_kind kind cut c a b = by (byte_of kind) cut c kind refl
+  where
+    by : (n : ℕ) (f : Tree → Tree → Tree) → Cut n f → (k : Kind) → n ≡ byte_of k → k ≡ last_kind (f a b)
+    by n f cut_beside k e = kind_same k Beside (sym e)
+    by n f cut_stacked k e = kind_same k Stacked (sym e)

@@ -89,9 +89,9 @@ module _ (levels a : List ℕ) (h spare lo hi : ℕ) (l : List Recorded) (g : Tu
 pub facing_ready : (a : List ℕ) (h spare : ℕ) → ((levels : List ℕ) × (lo : ℕ) × (hi : ℕ) × (l : List Recorded) × Turns levels a h spare lo hi l) → (rs : List ℕ) × Turnable a h spare rs
 facing_ready a h spare p = (p.4.part.list, facing_turns p.0 a h spare p.1 p.2 p.3 p.4)
 
-pub facing_across : (a b : List ℕ) (h spare : ℕ) (t : Bool) → t ≡ true → ((rs : List ℕ) → Turnable a h spare rs → Turned a h spare rs b) → (levels : List ℕ) (lo hi : ℕ) (l : List Recorded) → Turns levels a h spare lo hi l → Faces levels a b h spare lo hi l t spare
-facing_across a b h spare t e turns levels lo hi l g =
-    rw e (facing_turned levels a h spare lo hi l g b (turns g.part.list (facing_turns levels a h spare lo hi l g)))
+pub facing_across : (a b : List ℕ) (h spare : ℕ) (t r : Bool) → r ≡ t → r ≡ true → ((rs : List ℕ) → Turnable a h spare rs → Turned a h spare rs b) → (levels : List ℕ) (lo hi : ℕ) (l : List Recorded) → Turns levels a h spare lo hi l → Faces levels a b h spare lo hi l t spare
+facing_across a b h spare t r is e turns levels lo hi l g =
+    rw (sym is ∙ e) (facing_turned levels a h spare lo hi l g b (turns g.part.list (facing_turns levels a h spare lo hi l g)))
 
-pub facing_along : (a : List ℕ) (h spare : ℕ) (t : Bool) → t ≡ false → (levels : List ℕ) (lo hi : ℕ) (l : List Recorded) → Turns levels a h spare lo hi l → Faces levels a a h spare lo hi l t h
-facing_along a h spare t e levels lo hi l g = rw e (facing_stays levels a h spare lo hi l g)
+pub facing_along : (a : List ℕ) (h spare : ℕ) (t r : Bool) → r ≡ t → r ≡ false → (levels : List ℕ) (lo hi : ℕ) (l : List Recorded) → Turns levels a h spare lo hi l → Faces levels a a h spare lo hi l t h
+facing_along a h spare t r is e levels lo hi l g = rw (sym is ∙ e) (facing_stays levels a h spare lo hi l g)

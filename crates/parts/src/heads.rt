@@ -13,10 +13,8 @@ pub fn copy_head(arena: &mut [u32], from: usize, to: usize)
     requires { Has arena.old from × Has arena.old to }
     ensures { Copied arena.old from to arena.new }
 {
-    let mut j = 0;
-    while j < STRIDE {
+    for j in 0..STRIDE {
         let v = get(arena, from, j);
         store(arena, to, j, v);
-        j += 1;
     }
 }

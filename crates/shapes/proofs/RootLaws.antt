@@ -22,7 +22,10 @@ use Rattle.arena.specs.Lazy.{held}
 use Rattle.arena.proofs.Frames.{all_map}
 use Rattle.arena.proofs.ListLaws.{held_length}
 use Rattle.holding.proofs.Holds.{holds_lazy}
-use Rattle.entries.specs.inside.Kinds.{kind_of}
+use Rattle.entries.specs.inside.Kinds.{byte_of, last_kind, kind_of}
+use Rattle.entries.specs.declared.kinds.Kind.{Kind}
+use Rattle.entries.specs.declared.kinds.Kind.TheVariants.{Stacked}
+use Rattle.entries.proofs.KindLaws.{kind_same, last_number}
 use Rattle.parts.specs.inside.Building.{Whole}
 use Rattle.parts.proofs.PartLaws.{part_length, part_level}
 use Rattle.lent.specs.Lent.{written_over}
@@ -42,7 +45,7 @@ by_width gap (beside a b) e = absurd (omega arith)
 by_width gap (stacked a b) e =
     sym (items_turn (part_recorded gap 1 (stacked a b))) ∙ ap items (sym (shapes_stacked gap 1 a b)) ∙ items_shapes gap 1 (stacked a b)
 
-module _ (file levels : List ℕ) (rib : ℕ) (a b out : List ℕ) (kind : ℕ) (t : Tree) (face : face_of file ≡ taken t) (w : Whole file levels rib a b kind t) where
+module _ (file levels : List ℕ) (rib : ℕ) (a b out : List ℕ) (kind : Kind) (t : Tree) (face : face_of file ≡ taken t) (w : Whole file levels rib a b kind t) where
   abbrev list : List ℕ
   list = w.part.list
 
@@ -77,18 +80,18 @@ module _ (file levels : List ℕ) (rib : ℕ) (a b out : List ℕ) (kind : ℕ) 
     length_shapes : (l : List Item) → l ≡ shapes rib t → length l ≡ length list → count ≡ length (shapes rib t)
     length_shapes l e n = counted ∙ sym n ∙ ap length e
 
-    wrote_height : (kind ≡ 0x03 → ⊥) → out' ≡ written_over (list_words (items (held b 0 [] list))) out → WroteFace levels rib out b out' count t
+    wrote_height : (kind ≡ Stacked → ⊥) → out' ≡ written_over (list_words (items (held b 0 [] list))) out → WroteFace levels rib out b out' count t
     wrote_height other e =
-        let same : items (held b 0 [] list) ≡ shapes rib t = ap items w.part.holds ∙ by_height rib t (λ k. other (w.kind_is ∙ k)) in
+        let same : items (held b 0 [] list) ≡ shapes rib t = ap items w.part.holds ∙ by_height rib t (λ k. other (w.kind_is ∙ kind_same (last_kind t) Stacked (last_number t ∙ k))) in
         record {
           counted = length_shapes (items (held b 0 [] list)) same (length-map (held b 0 [] list) (λ (r : Recorded). r.item) ∙ held_length b 0 [] list);
           output = e ∙ ap (λ (l : List Item). written_over (list_words l) out) same;
           root = root_list;
         }
 
-    wrote_width : kind ≡ 0x03 → out' ≡ written_over (list_words (turn (items (held b 0 [] list)))) out → WroteFace levels rib out b out' count t
+    wrote_width : kind ≡ Stacked → out' ≡ written_over (list_words (turn (items (held b 0 [] list)))) out → WroteFace levels rib out b out' count t
     wrote_width stack e =
-        let same : turn (items (held b 0 [] list)) ≡ shapes rib t = ap (λ (l : List Recorded). turn (items l)) w.part.holds ∙ by_width rib t (sym w.kind_is ∙ stack) in
+        let same : turn (items (held b 0 [] list)) ≡ shapes rib t = ap (λ (l : List Recorded). turn (items l)) w.part.holds ∙ by_width rib t (sym (last_number t) ∙ ap byte_of (sym w.kind_is ∙ stack)) in
         record {
           counted = length_shapes (turn (items (held b 0 [] list))) same (turn_length (items (held b 0 [] list)) ∙ length-map (held b 0 [] list) (λ (r : Recorded). r.item) ∙ held_length b 0 [] list);
           output = e ∙ ap (λ (l : List Item). written_over (list_words l) out) same;
@@ -96,7 +99,7 @@ module _ (file levels : List ℕ) (rib : ℕ) (a b out : List ℕ) (kind : ℕ) 
         }
 
 -- The calls of the function, and its two ways out.
-module _ (file levels : List ℕ) (rib : ℕ) (a b out : List ℕ) (kind : ℕ) (whole : (t : Tree) → face_of file ≡ taken t → Whole file levels rib a b kind t) where
+module _ (file levels : List ℕ) (rib : ℕ) (a b out : List ℕ) (kind : Kind) (whole : (t : Tree) → face_of file ≡ taken t → Whole file levels rib a b kind t) where
   pub writes_ready : Writable file levels rib a out → (rs : List ℕ) × Listable b 0 rs out
   writes_ready p =
       let t = p.ready.tree in
@@ -116,14 +119,14 @@ module _ (file levels : List ℕ) (rib : ℕ) (a b out : List ℕ) (kind : ℕ) 
     same_room t e =
         subst (λ (x : Tree). 2 * (size_count x - gauge_count x + 1) ≤ length out) (same_taken p.ready.tree t (sym p.ready.face ∙ e)) p.room
 
-    pub writes_height : (kind ≡ 0x03 → ⊥) → ((rs : List ℕ) → Listable b 0 rs out → (count ≡ length rs) × (out' ≡ written_over (list_words (items (held b 0 [] rs))) out)) → Wrote file levels rib out b out' count
+    pub writes_height : (kind ≡ Stacked → ⊥) → ((rs : List ℕ) → Listable b 0 rs out → (count ≡ length rs) × (out' ≡ written_over (list_words (items (held b 0 [] rs))) out)) → Wrote file levels rib out b out' count
     unfolding Wrote
     writes_height other written t e =
         let w = whole t e in
         let r = written w.part.list (root_listable file levels rib a b out kind t e w (same_room t e)) in
         wrote_height file levels rib a b out kind t e w count out' r.0 other r.1
 
-    pub writes_width : kind ≡ 0x03 → ((rs : List ℕ) → Listable b 0 rs out → (count ≡ length rs) × (out' ≡ written_over (list_words (turn (items (held b 0 [] rs)))) out)) → Wrote file levels rib out b out' count
+    pub writes_width : kind ≡ Stacked → ((rs : List ℕ) → Listable b 0 rs out → (count ≡ length rs) × (out' ≡ written_over (list_words (turn (items (held b 0 [] rs)))) out)) → Wrote file levels rib out b out' count
     unfolding Wrote
     writes_width stack written t e =
         let w = whole t e in

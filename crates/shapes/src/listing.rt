@@ -9,6 +9,7 @@ ghost use Rattle.shapes.specs.inside.Taken.{Writable, Wrote, listed_as};
 use crate::Listed;
 use checks::Check;
 use checks::limits::WORDS;
+use entries::Kind;
 use facefile::{Counts, reader};
 use parts::build::build;
 use writing::write::{write_by_height, write_by_width};
@@ -45,10 +46,10 @@ pub fn write_list(
     ensures { Wrote file.now levels.now rib output.old arena.new output.new result }
 {
     let kind = build(file, levels, rib, arena);
-    if kind == entries::STACKED {
-        return write_by_width(arena, 0, output) as u32;
+    match kind {
+        Kind::Stacked => write_by_width(arena, 0, output) as u32,
+        _ => write_by_height(arena, 0, output) as u32,
     }
-    write_by_height(arena, 0, output) as u32
 }
 
 // The checks of the list call, then the list. Answers the item count.

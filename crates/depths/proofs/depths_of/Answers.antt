@@ -1,36 +1,41 @@
 -- `depths::depths_of` meets its contract.
--- The loop keeps `Measured`, that the arrays hold the depths of the parts on the stack; the measure is the bytes left.
-use borrow.Author.Rules.{rules}
-use Rattle.facefile.proofs.WalkSteps.{gauge_less, join_less}
-use Rattle.depths.proofs.DepthStack.{measured_start, least_gauge, most_gauge, measured_gauge, join_parts, join_some, least_join, most_join, measured_join, measured_end}
+-- The loop keeps `Measured`, that the array holds the depths of the parts on the stack.
+use mathlib.Core.Path.{refl}
+use native.Mathlib.Omega.{arith}
+use Rattle.depths.proofs.DepthStack.{measured_start, gauge_room, measured_gauge, join_two, join_shallow, measured_join, measured_end}
 use Rattle.depths.proofs.depths_of.Goals as goal
 
-pub loop-at-init : goal.loop-at-init
-loop-at-init c = search (rules, measured_start)
+pub loop-entry-init : goal.loop-entry-init
+loop-entry-init c = measured_start _ _ _ _ c.requires c.of-entry-items.ensures c.into_iter-entry-iterator.ensures.into_iter_gives refl
 
-pub add_gauge-requires : goal.add_gauge-requires
-add_gauge-requires c = search (rules, least_gauge, most_gauge)
+pub bounds-stack-parts : goal.bounds-stack-parts
+bounds-stack-parts c =
+    let room = gauge_room _ _ _ _ _ c.loop-entry.invariant _ c.in-Some.ensures.steps _ c.in-Gauge.is in
+    let long = c.loop-entry.invariant.held.long in
+    omega arith
 
-pub loop-at-smaller-in-Gauge : goal.loop-at-smaller-in-Gauge
-loop-at-smaller-in-Gauge c = search (rules, gauge_less)
-
-pub loop-at-preserved-in-Gauge : goal.loop-at-preserved-in-Gauge
-loop-at-preserved-in-Gauge c = search (rules, measured_gauge)
+pub loop-entry-preserved-in-Gauge : goal.loop-entry-preserved-in-Gauge
+loop-entry-preserved-in-Gauge c =
+    measured_gauge _ _ _ _ _ c.loop-entry.invariant _ c.in-Some.ensures.steps _ c.in-Gauge.is _ refl
 
 pub overflow_sub-parts : goal.overflow_sub-parts
-overflow_sub-parts c = search (rules, join_parts)
-
-pub add_join-requires : goal.add_join-requires
-add_join-requires c = search (rules, least_join, most_join)
+overflow_sub-parts c =
+    let two = join_two _ _ _ _ _ c.loop-entry.invariant _ c.in-Some.ensures.steps _ c.in-Join.is in omega arith
 
 pub overflow_sub-parts-in-Join : goal.overflow_sub-parts-in-Join
-overflow_sub-parts-in-Join c = search (rules, join_some)
+overflow_sub-parts-in-Join c =
+    let two = join_two _ _ _ _ _ c.loop-entry.invariant _ c.in-Some.ensures.steps _ c.in-Join.is in omega arith
 
-pub loop-at-smaller : goal.loop-at-smaller
-loop-at-smaller c = search (rules, join_less)
+pub under_join-requires : goal.under_join-requires
+under_join-requires c = join_shallow _ _ _ _ _ c.loop-entry.invariant _ c.in-Some.ensures.steps _ c.in-Join.is
 
-pub loop-at-preserved : goal.loop-at-preserved
-loop-at-preserved c = search (rules, measured_join)
+pub overflow_sub-stack : goal.overflow_sub-stack
+overflow_sub-stack c =
+    let two = join_two _ _ _ _ _ c.loop-entry.invariant _ c.in-Some.ensures.steps _ c.in-Join.is in omega arith
+
+pub loop-entry-preserved : goal.loop-entry-preserved
+loop-entry-preserved c =
+    measured_join _ _ _ _ _ c.loop-entry.invariant _ c.in-Some.ensures.steps _ c.in-Join.is _ _ c.under_join.ensures refl
 
 pub returns : goal.returns
-returns c = search (rules, measured_end)
+returns c = measured_end _ _ _ _ _ c.loop-entry.invariant _ c.in-None.is c.next.ensures.steps

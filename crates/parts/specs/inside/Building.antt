@@ -5,7 +5,8 @@ use Rattle.checks.specs.Answer.{taken}
 use Rattle.slicing.specs.Tree.{Tree, size_count}
 use Rattle.slicing.specs.Recorded.{part_recorded}
 use Rattle.facefile.specs.Format.{face_of}
-use Rattle.entries.specs.inside.Kinds.{kind_of}
+use Rattle.entries.specs.inside.Kinds.{last_kind}
+use Rattle.entries.specs.declared.kinds.Kind.{Kind}
 use Rattle.parts.specs.inside.Part.{Part}
 
 -- A taken file, with a level from 1 to 8 for each size, a rib of at most 20, and room.
@@ -19,7 +20,7 @@ pub record Buildable (file levels : List ℕ) (rib : ℕ) (a : List ℕ) : Type 
   pub long : buffer_words ≤ length a
 
 -- The face's list stands at record 0.
-pub record Whole (file levels : List ℕ) (rib : ℕ) (a b : List ℕ) (kind : ℕ) (t : Tree) : Type 0 where
+pub record Whole (file levels : List ℕ) (rib : ℕ) (a b : List ℕ) (kind : Kind) (t : Tree) : Type 0 where
   pub length_kept : length b ≡ length a
-  pub kind_is : kind ≡ kind_of t
+  pub kind_is : kind ≡ last_kind t
   pub part : Part levels b 0 1 (1 + size_count t) (part_recorded rib 1 t)

@@ -2,8 +2,14 @@
 use Rattle.std.specs.Prelude.{◌≡◌, Bool, cond, List, ℕ, ◌+◌, ◌≤◌, ◌<◌, length}
 use Rattle.checks.specs.Limits.{buffer_words, most_sizes}
 use Rattle.slicing.specs.Recorded.{Recorded, merge_recorded, turn_recorded}
+use Rattle.entries.specs.inside.Kinds.{byte_of, across}
+use Rattle.entries.specs.declared.kinds.Kind.{Kind}
 use Rattle.arena.specs.inside.Chain.{Same}
 use Rattle.parts.specs.inside.Part.{first_head, head_of, last_head, Part, Suits}
+
+-- Whether a part of one kind runs the other way than a join of the other kind.
+abbrev pub crosses : Kind → Kind → Bool
+crosses part join = across (byte_of part) (byte_of join)
 
 -- The list, or the list turned.
 abbrev pub turned_if : Bool → List Recorded → List Recorded

@@ -1,91 +1,72 @@
 -- `parts::build::build` meets its contract.
--- The loop keeps `Standing`, that the parts of the stack stand in the arena; the measure is the bytes left.
-use mathlib.Core.Path.{ap, ◌∙◌}
-use mathlib.Core.Bool.{not}
+-- The loop keeps `Standing`, that the parts of the stack stand in the arena.
+use mathlib.Core.Path.{refl, ◌∙◌}
 use native.Mathlib.Omega.{arith}
-use borrow.Author.Rules.{rules}
-use Rattle.facefile.proofs.WalkSteps.{gauge_upward, gauge_inside, gauge_less, join_less}
-use Rattle.parts.proofs.Standing.{standing_long, file_headed, standing_start, gauge_room, levels_left, records_left, gauge_bytes, gauge_in_order, gauge_loads, standing_gauge, join_parts, join_some, join_ready, standing_join, standing_whole}
+use Rattle.parts.proofs.Standing.{standing_long, file_headed, file_taken, standing_start, gauge_room, levels_left, gauge_bytes, gauge_in_order, gauge_loads, standing_gauge, join_parts, join_ready, standing_join, standing_whole}
 use Rattle.parts.proofs.build.build.Goals as goal
-use Rattle.parts.proofs.build.build.Goals.{then-not-known, else-not-known}
+use Rattle.parts.proofs.build.build.Goals.{then-known, else-known}
 
 pub asks_order-known-requires : goal.asks_order-known-requires
-asks_order-known-requires c = search (rules, file_headed)
+asks_order-known-requires c = file_headed _ _ _ _ c.requires
 
-pub loop-at-init : goal.loop-at-init
-loop-at-init c = search (rules, standing_start)
+pub of-entry-items-requires : goal.of-entry-items-requires
+of-entry-items-requires c = file_taken _ _ _ _ c.requires
 
-pub overflow_add-end : goal.overflow_add-end
-overflow_add-end c =
-    let left = records_left _ _ _ _ _ _ _ _ _ c.loop-at.invariant _ c.entry_at.ensures _ c.in-Gauge.is in
-    record { fits = omega arith }
-
-pub slice_bounds-sizes-count : goal.slice_bounds-sizes-count
-slice_bounds-sizes-count c = search (rules, gauge_upward)
-
-pub slice_bounds-sizes-start : goal.slice_bounds-sizes-start
-slice_bounds-sizes-start c = search (rules, gauge_upward)
-
-pub slice_bounds-sizes-end : goal.slice_bounds-sizes-end
-slice_bounds-sizes-end c = search (rules, gauge_inside)
+pub loop-entry-init : goal.loop-entry-init
+loop-entry-init c =
+    standing_start _ _ _ _ _ _ _ c.requires refl c.of-entry-items.ensures c.into_iter-entry-iterator.ensures.into_iter_gives
 
 pub slice_bounds-own-end : goal.slice_bounds-own-end
-slice_bounds-own-end c = search (rules, levels_left)
+slice_bounds-own-end c = levels_left _ _ _ _ _ _ _ _ _ _ c.loop-entry.invariant _ c.in-Some.ensures.steps _ c.in-Gauge.is
 
 pub in_order-named-requires : goal.in_order-named-requires
 in_order-named-requires c =
-    let bytes = gauge_bytes _ _ _ _ _ _ _ _ _ c.loop-at.invariant _ c.entry_at.ensures _ c.in-Gauge.is in
+    let bytes = gauge_bytes _ _ _ _ _ _ _ _ _ _ c.loop-entry.invariant _ c.in-Some.ensures.steps _ c.in-Gauge.is in
     (bytes.some, bytes.few)
 
 pub order-named-requires : goal.order-named-requires
-order-named-requires c = gauge_bytes _ _ _ _ _ _ _ _ _ c.loop-at.invariant _ c.entry_at.ensures _ c.in-Gauge.is
+order-named-requires c = gauge_bytes _ _ _ _ _ _ _ _ _ _ c.loop-entry.invariant _ c.in-Some.ensures.steps _ c.in-Gauge.is
 
 pub load-requires : goal.load-requires
 load-requires c =
-    let standing = c.loop-at.invariant in
-    let found = c.entry_at.ensures in
+    let standing = c.loop-entry.invariant in
+    let came = c.in-Some.ensures.steps in
     let is-gauge = c.in-Gauge.is in
-    let asked = c.asks_order-known.ensures in
-    elim c.if-not-known.branch [
-      | then-not-known w ↦ gauge_loads _ _ _ _ _ _ _ _ _ standing _ found _ is-gauge _ (w.named-is ∙ w.order-named.ensures)
-      | else-not-known w ↦
-          gauge_loads _ _ _ _ _ _ _ _ _ standing _ found _ is-gauge _
-          (gauge_in_order _ _ _ _ _ _ _ _ _ standing _ found _ is-gauge _ asked (ap not w.if-not-known.false) _ (w.named-is ∙ c.in_order-named.ensures))
+    elim c.if-known.branch [
+      | then-known w ↦
+          gauge_loads _ _ _ _ _ _ _ _ _ _ standing _ came _ is-gauge _
+          (gauge_in_order _ _ _ _ _ _ _ _ _ _ standing _ came _ is-gauge _ c.asks_order-known.ensures w.if-known.true _ (w.named-is ∙ w.in_order-named.ensures))
+      | else-known w ↦ gauge_loads _ _ _ _ _ _ _ _ _ _ standing _ came _ is-gauge _ (w.named-is ∙ w.order-named.ensures)
     ]
 
 pub bounds-kinds-parts : goal.bounds-kinds-parts
-bounds-kinds-parts c = search (rules, gauge_room)
+bounds-kinds-parts c = gauge_room _ _ _ _ _ _ _ _ _ _ c.loop-entry.invariant _ c.in-Some.ensures.steps _ c.in-Gauge.is
 
-pub loop-at-smaller-in-Gauge : goal.loop-at-smaller-in-Gauge
-loop-at-smaller-in-Gauge c = search (rules, gauge_less)
-
-pub loop-at-preserved-in-Gauge : goal.loop-at-preserved-in-Gauge
-loop-at-preserved-in-Gauge c = search (rules, standing_gauge)
-
-pub overflow_sub-older : goal.overflow_sub-older
-overflow_sub-older c = search (rules, join_parts)
-
-pub join-requires : goal.join-requires
-join-requires c =
-    let inv = c.loop-at.invariant in
-    record {
-      rib_small = inv.ready.narrow;
-      joinable = join_ready _ _ _ _ _ _ _ _ _ c.loop-at.invariant _ c.entry_at.ensures _ _ c.in-Join.is _ _ c.runs_across-first.ensures c.runs_across-second.ensures;
-    }
+pub loop-entry-preserved-in-Gauge : goal.loop-entry-preserved-in-Gauge
+loop-entry-preserved-in-Gauge c =
+    standing_gauge _ _ _ _ _ _ _ _ _ _ c.loop-entry.invariant _ c.in-Some.ensures.steps _ c.in-Gauge.is _ c.load.ensures _ refl
 
 pub overflow_sub-parts : goal.overflow_sub-parts
-overflow_sub-parts c = search (rules, join_some)
+overflow_sub-parts c =
+    let two = join_parts _ _ _ _ _ _ _ _ _ _ c.loop-entry.invariant _ c.in-Some.ensures.steps _ c.in-Join.is in omega arith
 
-pub loop-at-smaller : goal.loop-at-smaller
-loop-at-smaller c = search (rules, join_less)
+pub overflow_sub-older : goal.overflow_sub-older
+overflow_sub-older c =
+    let two = join_parts _ _ _ _ _ _ _ _ _ _ c.loop-entry.invariant _ c.in-Some.ensures.steps _ c.in-Join.is in omega arith
 
-pub loop-at-preserved : goal.loop-at-preserved
-loop-at-preserved c = search (rules, standing_join)
+pub join-requires-clause-joinable : goal.join-requires-clause-joinable
+join-requires-clause-joinable c =
+    join_ready _ _ _ _ _ _ _ _ _ _ c.loop-entry.invariant _ c.in-Some.ensures.steps _ c.in-Join.is
+
+pub loop-entry-preserved : goal.loop-entry-preserved
+loop-entry-preserved c =
+    standing_join _ _ _ _ _ _ _ _ _ _ c.loop-entry.invariant _ c.in-Some.ensures.steps _ c.in-Join.is _ c.join.ensures _ refl
 
 pub copy_head-requires : goal.copy_head-requires
 copy_head-requires c =
-    let long = standing_long _ _ _ _ _ _ _ _ _ c.loop-at.invariant in
+    let long = standing_long _ _ _ _ _ _ _ _ _ c.loop-entry.invariant in
     (omega arith, omega arith)
 
 pub returns : goal.returns
-returns c = search (rules, standing_whole)
+returns c =
+    standing_whole _ _ _ _ _ _ _ _ _ _ c.loop-entry.invariant _ c.in-None.is c.next.ensures.steps _ _ c.copy_head.ensures refl

@@ -1,5 +1,5 @@
 -- `parts::heads::copy_head` meets its contract.
--- The loop keeps `Copying`, that the first j words are copied; the measure is the words left.
+-- The loop keeps `Copying`, that the first j words are copied.
 use borrow.Author.Rules.{rules}
 use Rattle.parts.proofs.CopyLaws.{copying_start, copying_more, copying_has, copying_done}
 use Rattle.parts.proofs.heads.copy_head.Goals as goal

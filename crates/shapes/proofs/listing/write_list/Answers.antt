@@ -14,17 +14,16 @@ pub overflow_cast-result : goal.overflow_cast-result
 overflow_cast-result c =
     record { fits = let few = writes_few _ _ _ _ _ _ _ c.build-kind.ensures c.requires _ (λ rs l. (c.write_by_width.ensures rs l).0) in omega arith }
 
-pub returns-then-kind-eq-STACKED : goal.returns-then-kind-eq-STACKED
-returns-then-kind-eq-STACKED c =
-    writes_width _ _ _ _ _ _ _ c.build-kind.ensures c.requires _ _ (let t = c.if-kind-eq-STACKED.true in omega arith) c.write_by_width.ensures
+pub returns-in-Stacked : goal.returns-in-Stacked
+returns-in-Stacked c = writes_width _ _ _ _ _ _ _ c.build-kind.ensures c.requires _ _ c.in-Stacked.is c.write_by_width.ensures
 
 pub write_by_height-requires : goal.write_by_height-requires
 write_by_height-requires c = writes_ready _ _ _ _ _ _ _ c.build-kind.ensures c.requires
 
-pub overflow_cast-result-2 : goal.overflow_cast-result-2
-overflow_cast-result-2 c =
+pub overflow_cast-result-in_default : goal.overflow_cast-result-in_default
+overflow_cast-result-in_default c =
     record { fits = let few = writes_few _ _ _ _ _ _ _ c.build-kind.ensures c.requires _ (λ rs l. (c.write_by_height.ensures rs l).0) in omega arith }
 
-pub returns : goal.returns
-returns c =
-    writes_height _ _ _ _ _ _ _ c.build-kind.ensures c.requires _ _ (λ e. let t = c.if-kind-eq-STACKED.false in omega arith) c.write_by_height.ensures
+pub returns-in_default : goal.returns-in_default
+returns-in_default c =
+    writes_height _ _ _ _ _ _ _ c.build-kind.ensures c.requires _ _ c.in_default.not-Stacked c.write_by_height.ensures
