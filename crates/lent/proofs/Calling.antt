@@ -90,28 +90,38 @@ unfolding counted
 face_refused c (refused d) e = let same : c ≡ d = cc in ap refused (sym same)
 face_refused c (taken t) e = absurd (not_both c (counts_of t) e)
 
--- A call that asks what hangs on the counts alone, and answers with the first check that was answered "no".
-module _ (face : Answer Tree) (asked : Counted → Asked) where
-  abbrev counted_call : Answer Tree
-  counted_call = call_on face (λ t. asked (counts_of t))
+-- A call that answers with the first check that was answered "no".
+module _ (face : Answer Tree) (asks : Tree → Asked) where
+  pub tree_no_file : (c : Check) → ◌≡◌ {A = Answer Counted} (refused c) (counted face) → call_on face asks ≡ refused c
+  tree_no_file c e = ap (λ (a : Answer Tree). call_on a asks) (face_refused c face e)
 
-  pub call_no_file : (c : Check) → ◌≡◌ {A = Answer Counted} (refused c) (counted face) → counted_call ≡ refused c
-  call_no_file c e = ap (λ (a : Answer Tree). call_on a (λ t. asked (counts_of t))) (face_refused c face e)
+  module _ (t : Tree) (is : face ≡ taken t) where
+    tree_asks : call_on face asks ≡ also (asks t) (taken t)
+    tree_asks = ap (λ (a : Answer Tree). call_on a asks) is
+
+    pub tree_no_asked : (c : Check) → refused c ≡ asks t → call_on face asks ≡ refused c
+    tree_no_asked c e = tree_asks ∙ ap (λ (q : Asked). also q (taken t)) (sym e)
+
+    pub tree_goes : taken tt ≡ asks t → call_on face asks ≡ taken t
+    tree_goes e = tree_asks ∙ ap (λ (q : Asked). also q (taken t)) (sym e)
+
+-- The same where what it asks hangs on the counts alone.
+module _ (face : Answer Tree) (asked : Counted → Asked) where
+  abbrev counted_asks : Tree → Asked
+  counted_asks t = asked (counts_of t)
+
+  pub call_no_file : (c : Check) → ◌≡◌ {A = Answer Counted} (refused c) (counted face) → call_on face counted_asks ≡ refused c
+  call_no_file c e = tree_no_file face counted_asks c e
 
   module _ (n : Counted) (read : taken n ≡ counted face) where
     pub called : CountedFace n face
     called = face_counted n face read
 
-    call_asks : counted_call ≡ also (asked n) (taken called.tree)
-    call_asks =
-        ap (λ (a : Answer Tree). call_on a (λ t. asked (counts_of t))) called.face
-        ∙ ap (λ (m : Counted). also (asked m) (taken called.tree)) (sym called.counts)
+    pub call_no_asked : (c : Check) → refused c ≡ asked n → call_on face counted_asks ≡ refused c
+    call_no_asked c e = tree_no_asked face counted_asks called.tree called.face c (e ∙ ap asked called.counts)
 
-    pub call_no_asked : (c : Check) → refused c ≡ asked n → counted_call ≡ refused c
-    call_no_asked c e = call_asks ∙ ap (λ (q : Asked). also q (taken called.tree)) (sym e)
-
-    pub call_goes : taken tt ≡ asked n → counted_call ≡ taken called.tree
-    call_goes e = call_asks ∙ ap (λ (q : Asked). also q (taken called.tree)) (sym e)
+    pub call_goes : taken tt ≡ asked n → call_on face counted_asks ≡ taken called.tree
+    call_goes e = tree_goes face counted_asks called.tree called.face (e ∙ ap asked called.counts)
 
 -- What is counted in a taken file is few.
 pub record Few (g n : ℕ) : Type 0 where
