@@ -8,18 +8,21 @@ ghost use Rattle.writing.specs.Words.{list_words};
 ghost use Rattle.written.specs.EntriesOf.{entries_of};
 ghost use Rattle.text.specs.inside.Appending.{Appended};
 ghost use Rattle.saving.specs.Saving.{WordPromise};
+ghost use Rattle.saving.specs.inside.Answers.{worded_as};
 
 use crate::Worded;
+use checks::Check;
 use facefile::walk::{Entry, FIRST_ENTRY, entry_at};
+use facefile::{Counts, reader};
 use gauges::put_gauge;
 
 // How many words a face of so many gauges and sizes takes: one, one for each of 2g - 1 entries, one more for each gauge,
 // and two for each size.
-fn word_count(gauges: usize, sizes: usize) -> usize
-    requires { (gauges ≤ most_gauges) × (sizes ≤ most_sizes) }
-    ensures { result ≡ 3 * gauges + 2 * sizes }
+fn word_count(counts: Counts) -> usize
+    requires { (counts.gauges ≤ most_gauges) × (counts.sizes ≤ most_sizes) }
+    ensures { result ≡ 3 * counts.gauges + 2 * counts.sizes }
 {
-    3 * gauges + 2 * sizes
+    3 * counts.gauges + 2 * counts.sizes
 }
 
 // The entries of a taken file, in words from a place on. Answers the place after them.
@@ -47,20 +50,25 @@ fn put_entries(output: &mut [u32], start: usize, file: &[u8]) -> usize
     next
 }
 
+// The checks of the reading call, then the file's words. Answers how many they are.
+fn worded(file: &[u8], output: &mut [u32]) -> Result<u32, Check>
+    ensures { WordPromise (face_of file.now) output.old (worded_as result) output.new }
+{
+    let counts = reader::counts(file)?;
+    lent::output(word_count(counts), output.len())?;
+    output[0] = (2 * counts.gauges - 1) as u32;
+    Ok(put_entries(output, 1, file) as u32)
+}
+
 // Checks 1 to 13 on the file, then 18, and then its words from the output's start. A refusal leaves the output as it was.
 pub fn read_words(file: &[u8], output: &mut [u32]) -> Worded
     ensures { WordPromise (face_of file.now) output.old result output.new }
 {
-    let face = facefile::read(file);
-    let room = lent::output_number(word_count(face.gauges, face.sizes), output.len());
-    let number = checks::first_no(face.number, room);
-    if number != checks::TAKEN {
-        return Worded { number, count: 0 };
-    }
-    output[0] = (2 * face.gauges - 1) as u32;
-    let count = put_entries(output, 1, file);
-    Worded {
-        number: checks::TAKEN,
-        count: count as u32,
+    match worded(file, output) {
+        Ok(count) => Worded { number: 0, count },
+        Err(check) => Worded {
+            number: check.number(),
+            count: 0,
+        },
     }
 }
