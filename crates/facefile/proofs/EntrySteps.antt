@@ -24,7 +24,7 @@ use Rattle.facefile.specs.declared.entry.Entry.TheVariants.{Gauge, Join}
 use Rattle.facefile.specs.declared.entry.Entries.{Entries}
 use Rattle.facefile.proofs.EntryWalk.{run_kind, run_join, run_count, gauge_present, gauge_next}
 
-nothing : (l : List ℕ) → length l ≡ 0 → l ≡ []
+pub nothing : (l : List ℕ) → length l ≡ 0 → l ≡ []
 nothing [] e = refl
 nothing (x ∷ l) e = absurd (omega arith)
 
@@ -36,7 +36,7 @@ kind_of_ok (refused c) o first kind e f g = let none : None ≡ Some kind = sym 
 pub gauge_of_ok : (a : Answer Kind) (o : Option Kind) (first : ℕ) (kind : Kind) → a ≡ kind_numbered first → o ≡ result_ok a → o ≡ Some kind → kind ≡ a_gauge → kind_numbered first ≡ taken a_gauge
 gauge_of_ok a o first kind e f g is = kind_of_ok a o first kind e f g ∙ ap taken is
 
-none_of_ok : (a : Answer Kind) (o : Option Kind) (first : ℕ) (kind : Kind) → a ≡ kind_numbered first → o ≡ result_ok a → o ≡ None → kind_numbered first ≡ taken kind → ⊥
+pub none_of_ok : (a : Answer Kind) (o : Option Kind) (first : ℕ) (kind : Kind) → a ≡ kind_numbered first → o ≡ result_ok a → o ≡ None → kind_numbered first ≡ taken kind → ⊥
 none_of_ok (taken k) o first kind e f g is = let none : None ≡ Some k = sym g ∙ f in cc
 none_of_ok (refused c) o first kind e f g is = not_both c kind (e ∙ is)
 

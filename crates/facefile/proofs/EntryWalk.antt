@@ -169,7 +169,7 @@ module _ (whole : Answer Tree) (rules : Rules) (begin : State) (face : Tree) (re
     took_here : Took rules here taken_here.after
     took_here = entry_took rules rest stack w.gauges taken_here.after taken_here.takes
 
-    run_behind : (l : List ℕ) (parts : List Tree) (g : ℕ) → taken_here.after ≡ state l parts g → Run whole rules begin face l parts
+    pub run_behind : (l : List ℕ) (parts : List Tree) (g : ℕ) → taken_here.after ≡ state l parts g → Run whole rules begin face l parts
     run_behind l parts g e =
         record {
           means = w.means;

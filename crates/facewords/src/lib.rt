@@ -1,6 +1,7 @@
 // A face as 32-bit words: checks 4 to 8 and 10 to 13, what is counted in taken ones, and the walk over their entries.
 #![tactic(auto)]
 
+pub mod entry;
 mod reader;
 mod size;
 pub mod walk;
