@@ -1,26 +1,13 @@
 // The entries, read from a cursor. Each function does what the definition of the same entry says, from any state that
 // the cursor stands for.
-ghost use Rattle.std.specs.Prelude.{◌≡◌, List, ℕ, ◌+◌, ◌<◌, ◌≤◌, ◌^◌, length};
+ghost use Rattle.std.specs.Prelude.{◌≡◌, List, ℕ, ◌≤◌, length};
 ghost use Rattle.slicing.specs.Tree.{beside, stacked};
 ghost use Rattle.entries.specs.Entry.{join_entry, entry, entries};
-ghost use Rattle.entries.specs.inside.Tracking.{Fair, Follows, Does, advance, begun, unit_at};
+ghost use Rattle.entries.specs.inside.Tracking.{Fair, Follows, Does, begun, unit_at};
 
 use crate::gauge::read_gauge;
 use crate::{Cursor, Kind, Units};
 use checks::Check;
-
-// The cursor so many units on.
-fn advanced(c: Cursor, units: usize) -> Cursor
-    requires { c.at + units < 2 ^ 64 }
-    ensures { result ≡ advance c units }
-{
-    Cursor {
-        at: c.at + units,
-        parts: c.parts,
-        gauges: c.gauges,
-        sizes: c.sizes,
-    }
-}
 
 // The unit at the cursor, if it is present (check 5), and the cursor after it.
 pub fn read_unit<U: Units + Copy>(units: U, c: Cursor) -> Result<(u32, Cursor), Check>
@@ -29,7 +16,7 @@ pub fn read_unit<U: Units + Copy>(units: U, c: Cursor) -> Result<(u32, Cursor), 
     if units.len() <= c.at {
         return Err(Check::Present);
     }
-    Ok((units.unit(c.at), advanced(c, 1)))
+    Ok((units.unit(c.at), Cursor { at: c.at + 1, ..c }))
 }
 
 // A join, after its kind. It hangs on the number of parts alone.
@@ -41,10 +28,8 @@ fn read_join(c: Cursor) -> Result<Cursor, Check>
         return Err(Check::Join);
     }
     Ok(Cursor {
-        at: c.at,
         parts: c.parts - 1,
-        gauges: c.gauges,
-        sizes: c.sizes,
+        ..c
     })
 }
 

@@ -1,13 +1,14 @@
 -- What the reader answers of a whole file is what the definition says: laws for the header, for the entries and for the end.
 -- The entries give a cursor that stands for the state of the definition, and the end looks at what this counts.
 use mathlib.Core.Path.{◌≡◌, refl, sym, ap, subst, ◌∙◌}
-use mathlib.Core.Bool.{Bool, true, false, not, ◌&&◌, and-eq-true_iff}
+use mathlib.Core.Bool.{Bool, true, false, not, and-true}
 use mathlib.Core.List.{List, [], ◌∷◌}
 use Prim.Native.Nat.{ℕ, ◌≤◌, ◌<◌}
 use native.Mathlib.Omega.{arith}
-use lib.ListN.{length, get_or, take, length-drop}
+use lib.ListN.{length, length-drop}
 use lib.Dec.{eqb}
-use borrow.Author.Tests.{le-leb, lt-leb, eq-eqb, ne_eqb, eqb-true, not-true, not-false}
+use Rattle.std.specs.List.{starts_with}
+use borrow.Author.Tests.{le-leb, lt-leb, eq-eqb, ne_eqb, eqb-true, eqb-false, not-true, not-false}
 use Rattle.checks.specs.declared.Check.{Check}
 use Rattle.checks.specs.declared.Check.TheVariants.{Length, Mark, Version, Entries, OnePart, AtEnd}
 use Rattle.checks.specs.Answer.{Answer, refused, taken, next}
@@ -23,35 +24,22 @@ use Rattle.entries.specs.inside.Tracking.{flat, Fair, Follows}
 use Rattle.facefile.specs.inside.Ending.{Ends}
 use Rattle.facefile.proofs.Taken.{header_taken}
 
--- The first three bytes are `FCE` exactly where the definition's test says so.
+-- The first three bytes, as the code tests them.
 abbrev fce : List ℕ
 fce = 0x46 ∷ 0x43 ∷ 0x45 ∷ []
 
-marked_true : (s : List ℕ) → 7 ≤ length s → marked s ≡ true → take 3 s ≡ fce
-marked_true [] h e = absurd (omega arith)
-marked_true (a ∷ []) h e = absurd (omega arith)
-marked_true (a ∷ b ∷ []) h e = absurd (omega arith)
-marked_true (a ∷ b ∷ c ∷ s) h e =
-    let x = (and-eq-true_iff (eqb a 0x46) (eqb b 0x43 && eqb c 0x45)).0 e in
-    let y = (and-eq-true_iff (eqb b 0x43) (eqb c 0x45)).0 x.1 in
-    rw (eqb-true a 0x46 x.0, eqb-true b 0x43 y.0, eqb-true c 0x45 y.1)
-
-is_marked : (s : List ℕ) → 7 ≤ length s → take 3 s ≡ fce → marked s ≡ true
-is_marked [] h e = absurd (omega arith)
-is_marked (a ∷ []) h e = absurd (omega arith)
-is_marked (a ∷ b ∷ []) h e = absurd (omega arith)
-is_marked (a ∷ b ∷ c ∷ s) h e =
-    let x : a ≡ 0x46 = ap (λ (l : List ℕ). get_or l 0 0) e in
-    let y : b ≡ 0x43 = ap (λ (l : List ℕ). get_or l 1 0) e in
-    let z : c ≡ 0x45 = ap (λ (l : List ℕ). get_or l 2 0) e in
-    rw (x, y, z)
-
-no_mark : (s : List ℕ) (b : Bool) → 7 ≤ length s → (take 3 s ≡ fce → b ≡ true) → b ≡ false → marked s ≡ false
-no_mark s b h same no_same = by (marked s) refl
+flipped : (m n : ℕ) → eqb m n ≡ eqb n m
+flipped m n = by (eqb n m) refl
   where
-    by : (m : Bool) → marked s ≡ m → m ≡ false
-    by true e = sym (same (marked_true s h e)) ∙ no_same
-    by false e = refl
+    by : (b : Bool) → eqb n m ≡ b → eqb m n ≡ b
+    by true e = eq-eqb m n (sym (eqb-true n m e))
+    by false e = ne_eqb m n (λ h. eqb-false n m e (sym h))
+
+begins : (s : List ℕ) → 7 ≤ length s → starts_with eqb s fce ≡ marked s
+begins [] h = absurd (omega arith)
+begins (a ∷ []) h = absurd (omega arith)
+begins (a ∷ b ∷ []) h = absurd (omega arith)
+begins (a ∷ b ∷ c ∷ s) h = rw (flipped 0x46 a, flipped 0x43 b, flipped 0x45 c, and-true (eqb c 0x45)) refl
 
 -- The header: one law for each way out.
 module _ (s : List ℕ) where
@@ -59,14 +47,14 @@ module _ (s : List ℕ) where
   unfolding header
   header_short h = simp (lt-leb 7 (length s) h)
 
-  module _ (long : 7 ≤ length s) (b : Bool) (same : (b ≡ true → take 3 s ≡ fce) × (take 3 s ≡ fce → b ≡ true)) where
+  module _ (long : 7 ≤ length s) (b : Bool) (same : b ≡ starts_with eqb s fce) where
     pub header_unmarked : not b ≡ true → refused Mark ≡ header s
     unfolding header
-    header_unmarked h = simp (le-leb 7 (length s) long, no_mark s b long same.1 (not-true b h))
+    header_unmarked h = simp (le-leb 7 (length s) long, sym (begins s long) ∙ sym same ∙ not-true b h)
 
     module _ (good : not b ≡ false) where
       mark : marked s ≡ true
-      mark = is_marked s long (same.0 (not-false b good))
+      mark = sym (begins s long) ∙ sym same ∙ not-false b good
 
       module _ (v : ℕ) (version : v ≡ field s 3) (u : Bool) (known : u ≡ within 1 2 v) where
         pub header_version : not u ≡ true → refused Version ≡ header s

@@ -21,7 +21,7 @@ fn header(file: &[u8]) -> Result<u32, Check>
     if file.len() < 7 {
         return Err(Check::Length);
     }
-    if !check::same(&file[0..3], b"FCE") {
+    if !file.starts_with(b"FCE") {
         return Err(Check::Mark);
     }
     if !is_within(1, 2, field(file, 3)) {

@@ -4,7 +4,6 @@ use mathlib.Core.Path.{◌≡◌, sym, ap, ◌∙◌}
 use mathlib.Core.Bool.{Bool, true, false, not}
 use mathlib.Core.List.{List}
 use Prim.Native.Nat.{ℕ, ◌≤◌, ◌<◌}
-use native.Mathlib.Omega.{arith}
 use lib.ListN.{length, get_or}
 use lib.Dec.{ltb}
 use borrow.Author.Tests.{lt-ltb, le-ltb, ltb-true, not-true, not-false}
@@ -21,18 +20,19 @@ use Rattle.facewords.specs.Words.{word_rules, first_word, words_start, words_fac
 
 -- One law for each way out.
 module _ (words : List ℕ) where
-  pub first_missing : length words < 1 → refused Present ≡ first_word words
+  pub first_missing : length words ≤ 0 → refused Present ≡ first_word words
   unfolding first_word
-  first_missing none = simp (le-ltb 0 (length words) (omega arith))
+  first_missing none = simp (le-ltb 0 (length words) none)
 
-  module _ (some : 1 ≤ length words) (b : Bool) (e : b ≡ within 1 127 (get_or words 0 0)) where
+  -- The first word n, of which the code asks the test b.
+  module _ (some : 0 < length words) (n : ℕ) (is : n ≡ get_or words 0 0) (b : Bool) (e : b ≡ within 1 127 n) where
     pub first_out : not b ≡ true → refused Entries ≡ first_word words
     unfolding first_word
-    first_out out = simp (lt-ltb 0 (length words) some, sym e ∙ not-true b out)
+    first_out out = simp (lt-ltb 0 (length words) some, ← is, sym e ∙ not-true b out)
 
-    pub first_fine : not b ≡ false → taken (get_or words 0 0) ≡ first_word words
+    pub first_fine : not b ≡ false → taken n ≡ first_word words
     unfolding first_word
-    first_fine fine = simp (lt-ltb 0 (length words) some, sym e ∙ not-false b fine)
+    first_fine fine = simp (lt-ltb 0 (length words) some, ← is, sym e ∙ not-false b fine)
 
 -- What a taken first word says.
 pub record FirstTaken (words : List ℕ) (count : ℕ) : Type 0 where

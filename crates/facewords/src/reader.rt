@@ -15,13 +15,13 @@ use sizes::is_within;
 fn first_word(words: &[u32]) -> Result<u32, Check>
     ensures { result ≡ first_word words.now }
 {
-    if words.len() < 1 {
+    let Some(&count) = words.first() else {
         return Err(Check::Present);
-    }
-    if !is_within(1, 127, words[0]) {
+    };
+    if !is_within(1, 127, count) {
         return Err(Check::Entries);
     }
-    Ok(words[0])
+    Ok(count)
 }
 
 // Checks 4 to 8 and 10 to 13 on any words: the first that fails, or what is counted.

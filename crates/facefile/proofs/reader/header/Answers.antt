@@ -7,8 +7,8 @@ use Rattle.facefile.proofs.reader.header.Goals as goal
 pub returns-then-file-lt7 : goal.returns-then-file-lt7
 returns-then-file-lt7 c = search (rules, header_short)
 
-pub returns-then-not-same : goal.returns-then-not-same
-returns-then-not-same c = search (rules, header_unmarked)
+pub returns-then-not-starts_with : goal.returns-then-not-starts_with
+returns-then-not-starts_with c = search (rules, header_unmarked)
 
 pub returns-then-not-is_within : goal.returns-then-not-is_within
 returns-then-not-is_within c = search (rules, header_version)

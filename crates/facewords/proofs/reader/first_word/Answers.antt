@@ -4,11 +4,11 @@ use borrow.Author.Rules.{rules}
 use Rattle.facewords.proofs.FirstWord.{first_missing, first_out, first_fine}
 use Rattle.facewords.proofs.reader.first_word.Goals as goal
 
-pub returns-then-words-lt1 : goal.returns-then-words-lt1
-returns-then-words-lt1 c = search (rules, first_missing)
+pub returns-in_default : goal.returns-in_default
+returns-in_default c = search (rules, first_missing, c.in_default.ensures.item)
 
 pub returns-then-not-is_within : goal.returns-then-not-is_within
-returns-then-not-is_within c = search (rules, first_out)
+returns-then-not-is_within c = search (rules, first_out, c.in-Some.ensures.item)
 
 pub returns : goal.returns
-returns c = search (rules, first_fine)
+returns c = search (rules, first_fine, c.in-Some.ensures.item)
