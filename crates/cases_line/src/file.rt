@@ -1,7 +1,5 @@
 // The face file of a case.
-ghost use Rattle.std.specs.Prelude.{◌≤◌, length};
-
-use crate::hex::decode;
+use crate::line::Line;
 use cases_shown::print::{end_line, put_count, put_word};
 
 // What the reader of face files answers.
@@ -12,12 +10,9 @@ fn show_face(out: &impl Print, face: facefile::Face) {
     end_line(out);
 }
 
-// Takes the file that stands at a place of a text, and shows what the reader says of it. Answers how many bytes it has.
-pub fn take_file(out: &impl Print, text: &[u8], start: usize, file: &mut [u8]) -> usize
-    requires { start ≤ length text.now }
-{
-    let decoded = decode(text, start, file);
-    let bytes = decoded.length;
+// Takes the file that stands next in a line, and shows what the reader says of it. Answers how many bytes it has.
+pub fn take_file(out: &impl Print, mut line: Line<'_>, file: &mut [u8]) -> usize {
+    let bytes = line.bytes(file);
     show_face(out, facefile::read(&file[..bytes]));
     bytes
 }

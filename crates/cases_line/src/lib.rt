@@ -2,8 +2,8 @@
 // hexadecimal, and the words of a buffer that it replaces.
 #![tactic(auto)]
 
+mod bytes;
 pub mod file;
-pub mod hex;
-pub mod name;
-pub mod number;
-pub mod words;
+pub mod given;
+pub mod line;
+mod words;

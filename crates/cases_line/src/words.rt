@@ -1,36 +1,24 @@
 // The words of a buffer that a case replaces.
-ghost use Rattle.std.specs.Prelude.{◌≤◌, length};
+use crate::line::Line;
 
-use crate::number::number_at;
-use cases_shown::rooms::at_most;
-
-// Sets a word, where there is one.
-fn set(words: &mut [u32], at: usize, value: u32) {
-    if at < words.len() {
-        words[at] = value;
-    }
-}
-
-// The place after a word, and past every buffer the same place.
-fn next_place(at: usize) -> usize {
-    if at < 20_000 { at + 1 } else { 20_000 }
-}
-
-// Replaces the words that a text names from a place on.
-pub fn replace_words(text: &[u8], start: usize, words: &mut [u32])
-    requires { start ≤ length text.now }
-{
-    let mut at = start;
-    let mut place = 0;
-    while at < text.len() {
-        let sign = text[at];
-        let number = number_at(text, at + 1);
-        if sign == b'@' {
-            place = at_most(number.value, 20_000);
-        } else if sign == b' ' {
-            set(words, place, number.value);
-            place = next_place(place);
+impl Line<'_> {
+    // Replaces the words that the rest of the line names. A blank and a number put it at a place, and the next one after it;
+    // the first place is 0, and after @ another one stands.
+    pub fn replace_words(mut self, words: &mut [u32]) {
+        let mut place = 0usize;
+        while let Some((sign, rest)) = self.rest.split_first() {
+            self.rest = rest;
+            let number = self.number();
+            match *sign {
+                b'@' => place = number as usize,
+                b' ' => {
+                    if let Some(word) = words.get_mut(place) {
+                        *word = number;
+                    }
+                    place = place.saturating_add(1);
+                }
+                _ => {}
+            }
         }
-        at = number.end;
     }
 }

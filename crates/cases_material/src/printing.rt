@@ -1,9 +1,7 @@
 // The text of `material`.
-ghost use Rattle.std.specs.Prelude.{◌≤◌};
-
 use cases_shown::buffers::show_text;
 use cases_shown::print::put;
-use cases_shown::rooms::text_room;
+use cases_shown::rooms::{BLANK, TEXT};
 
 // The text in the buffer that is lent.
 fn print(out: &impl Print, file: &[u8], room: &mut [u8]) {
@@ -13,9 +11,7 @@ fn print(out: &impl Print, file: &[u8], room: &mut [u8]) {
 }
 
 // The same, lent so many bytes.
-pub fn call_material(out: &impl Print, file: &[u8], bytes: usize)
-    requires { bytes ≤ 13_700 }
-{
-    let mut room = text_room();
-    print(out, file, &mut room[..bytes]);
+pub fn call_material(out: &impl Print, file: &[u8], bytes: usize) {
+    let mut room = [BLANK; TEXT];
+    print(out, file, &mut room[..bytes.min(TEXT)]);
 }

@@ -1,13 +1,10 @@
 // The catalogue call.
-ghost use Rattle.std.specs.Prelude.{◌≤◌, length};
-
-use cases_line::number::Numbers;
-use cases_line::words::replace_words;
+use cases_line::given::Given;
 use cases_shown::buffers::show_output;
 use cases_shown::kept::show_all_kept;
 use cases_shown::list::show_list;
 use cases_shown::print::{end_line, put_next, put_word};
-use cases_shown::rooms::{WORDS, at_most, words_room};
+use cases_shown::rooms::WORDS;
 
 // What the catalogue call answered and what it left for so many heights, or whether the buffers are as they were.
 fn show_widths(
@@ -32,42 +29,28 @@ fn show_widths(
 // The catalogue call on heights, in the buffers that are lent.
 fn call_heights(
     out: &impl Print,
-    file: &[u8],
-    levels: &[u8],
-    rib: u32,
+    given: Given<'_>,
     heights: &[u32],
     arena: &mut [u32],
     scratch: &mut [u32],
     output: &mut [u32],
 ) {
-    let catalogued = catalogue::widths(file, levels, rib, heights, arena, scratch, output);
+    let rib = given.numbers.rib;
+    let file = given.file;
+    let catalogued = catalogue::widths(file, given.levels, rib, heights, arena, scratch, output);
     show_widths(out, catalogued, heights.len(), arena, scratch, output);
 }
 
-// The same on as many heights as the numbers say, some of which the text replaces.
+// The same on as many heights as the numbers say, some of which are replaced.
 pub fn call_widths(
     out: &impl Print,
-    text: &[u8],
-    file: &[u8],
-    levels: &[u8],
-    numbers: Numbers,
+    given: Given<'_>,
     arena: &mut [u32],
     scratch: &mut [u32],
     output: &mut [u32],
-)
-    requires { numbers.end ≤ length text.now }
-{
-    let mut heights = words_room(numbers.width);
-    replace_words(text, numbers.end, &mut heights);
-    let count = at_most(numbers.height, WORDS);
-    call_heights(
-        out,
-        file,
-        levels,
-        numbers.rib,
-        &heights[..count],
-        arena,
-        scratch,
-        output,
-    );
+) {
+    let mut heights = [given.numbers.width; WORDS];
+    given.replaced.replace_words(&mut heights);
+    let count = (given.numbers.height as usize).min(WORDS);
+    call_heights(out, given, &heights[..count], arena, scratch, output);
 }

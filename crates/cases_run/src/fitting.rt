@@ -1,4 +1,5 @@
 // The fit call.
+use cases_line::given::{Given, Numbers};
 use cases_shown::buffers::show_output;
 use cases_shown::kept::{show_all_kept, show_output_kept};
 use cases_shown::list::show_list;
@@ -34,29 +35,43 @@ fn show_fitted(
     output: &[u32],
 ) {
     put_answer(out, fitted);
-    if fitted.number == 0 {
-        show_layout(out, file, output);
-        show_list(out, arena);
-    } else if fitted.number == 19 {
-        show_output_kept(out, output);
-        show_list(out, arena);
-    } else {
-        show_all_kept(out, arena, scratch, output);
+    match fitted.number {
+        0 => {
+            show_layout(out, file, output);
+            show_list(out, arena);
+        }
+        19 => {
+            show_output_kept(out, output);
+            show_list(out, arena);
+        }
+        _ => show_all_kept(out, arena, scratch, output),
     }
 }
 
 // The fit call in the buffers that are lent.
 pub fn call_fit(
     out: &impl Print,
-    file: &[u8],
-    levels: &[u8],
-    rib: u32,
-    height: u32,
-    width: u32,
+    given: Given<'_>,
     arena: &mut [u32],
     scratch: &mut [u32],
     output: &mut [u32],
 ) {
-    let fitted = fit::fit(file, levels, rib, height, width, arena, scratch, output);
+    let Numbers {
+        rib,
+        height,
+        width,
+        ..
+    } = given.numbers;
+    let file = given.file;
+    let fitted = fit::fit(
+        file,
+        given.levels,
+        rib,
+        height,
+        width,
+        arena,
+        scratch,
+        output,
+    );
     show_fitted(out, fitted, file, arena, scratch, output);
 }

@@ -60,11 +60,9 @@ mod case;
 mod cataloguing;
 mod fitting;
 mod lending;
+mod letter;
 
-ghost use Rattle.std.specs.Prelude.{◌≡◌, ◌≤◌, length};
-
-use cases_line::number::number_at;
-use cases_shown::rooms::at_most;
+use cases_line::line::Line;
 use input::read_input;
 use std::io::Read;
 
@@ -74,23 +72,14 @@ const CASES: u64 = 1_000_000_000;
 // The most bytes of a case.
 const MOST: usize = 65_536;
 
-// Room for a case, or for a file. The `ensures` gives only the length, which lending a part needs.
-fn case_room() -> [u8; MOST]
-    ensures { 65_536 ≡ length result }
-{
-    [0; MOST]
-}
-
-// The number of bytes of the next case, and 0 where the input has ended.
-fn next_length(source: &mut impl Read) -> usize
-    ensures { result ≤ 65_536 }
-{
+// The number of bytes of the next case, where the input has not ended.
+fn next_length(source: &mut impl Read) -> Option<usize> {
     let mut head = [0u8; 7];
-    let input = read_input(source, &mut head);
-    if input.length < 7 {
-        return 0;
+    if read_input(source, &mut head).length < head.len() {
+        return None;
     }
-    at_most(number_at(&head, 0).value, MOST)
+    let mut line = Line { rest: &head };
+    Some(line.number() as usize).filter(|length| *length > 0)
 }
 
 // Reads a case, as many bytes as there is room for, and shows what it gives. The file that is lent has so many bytes, and
@@ -113,27 +102,24 @@ fn show_sized(
     length: usize,
     file: &mut [u8],
     bytes: usize,
-) -> usize
-    requires { length ≤ 65_536 }
-{
-    let mut room = case_room();
-    show_read(out, source, &mut room[..length], file, bytes)
+) -> usize {
+    let mut room = [0u8; MOST];
+    show_read(out, source, &mut room[..length.min(MOST)], file, bytes)
 }
 
 // All cases, with room for a file.
 fn show_cases(out: &impl Print, source: &mut impl Read, file: &mut [u8]) {
     let mut bytes = 0;
     for _ in 0..CASES {
-        let length = next_length(source);
-        if length == 0 {
+        let Some(length) = next_length(source) else {
             return;
-        }
+        };
         bytes = show_sized(out, source, length, file, bytes);
     }
 }
 
 // Shows what each case from standard input gives.
 pub fn run(rt: &(impl Input + Print)) {
-    let mut file = case_room();
+    let mut file = [0u8; MOST];
     show_cases(rt, &mut rt.reader(), &mut file);
 }

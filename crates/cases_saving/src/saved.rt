@@ -1,36 +1,34 @@
 // The writing call, on the words that the case's file is.
-ghost use Rattle.std.specs.Prelude.{◌≤◌};
-
-use crate::apart::words_apart;
+use crate::apart::apart;
 use crate::given::take_words;
-use cases_shown::buffers::put_file;
-use cases_shown::kept::{is_blank, put_kept};
+use cases_shown::buffers::put_units;
+use cases_shown::kept::{put_kept, show_output_kept};
 use cases_shown::print::{end_line, put, put_count, put_next, put_word};
-use cases_shown::rooms::{UNTOUCHED, length_of, text_room, words_room};
+use cases_shown::rooms::{BLANK, TEXT, UNTOUCHED, WORDS};
 
 // A written file read to words again: what the reading call answers, and in how many places its words are not those that
 // the file was written from.
 fn show_again(out: &impl Print, file: &[u8], words: &[u32]) {
-    let mut room = words_room(UNTOUCHED);
+    let mut room = [UNTOUCHED; WORDS];
     let worded = saving::read_words(file, &mut room);
     put_word(out, b"again ", worded.number);
     put_next(out, worded.count);
     put(out, b" differ");
-    put_count(out, words_apart(words, &room));
+    put_count(out, apart(words, &room));
     end_line(out);
 }
 
 // The file in the output of a taken call, whether the bytes after it are as they were, and its words.
 fn show_file(out: &impl Print, words: &[u32], output: &[u8], length: usize) {
-    if length > output.len() {
+    let Some((file, rest)) = output.split_at_checked(length) else {
         put(out, b"output too short\n");
         return;
-    }
+    };
     put(out, b"file ");
-    put_file(out, &output[..length]);
-    put_kept(out, b" rest", is_blank(&output[length..]));
+    put_units(out, file);
+    put_kept(out, b" rest", rest);
     end_line(out);
-    show_again(out, &output[..length], words);
+    show_again(out, file, words);
 }
 
 // What the writing call answered and what it left, or whether the output is as it was.
@@ -39,10 +37,9 @@ fn show_saved(out: &impl Print, saved: saving::Saved, words: &[u32], output: &[u
     put_next(out, saved.length);
     end_line(out);
     if saved.number == 0 {
-        show_file(out, words, output, length_of(saved.length));
+        show_file(out, words, output, saved.length as usize);
     } else {
-        put_kept(out, b"output", is_blank(output));
-        end_line(out);
+        show_output_kept(out, output);
     }
 }
 
@@ -53,11 +50,9 @@ fn save(out: &impl Print, words: &[u32], output: &mut [u8]) {
 }
 
 // The same of the words that a file is, lent so many bytes.
-pub fn call_saved(out: &impl Print, file: &[u8], bytes: usize)
-    requires { bytes ≤ 13_700 }
-{
-    let mut words = words_room(UNTOUCHED);
+pub fn call_saved(out: &impl Print, file: &[u8], bytes: usize) {
+    let mut words = [UNTOUCHED; WORDS];
     let count = take_words(file, &mut words);
-    let mut output = text_room();
-    save(out, &words[..count], &mut output[..bytes]);
+    let mut output = [BLANK; TEXT];
+    save(out, &words[..count], &mut output[..bytes.min(TEXT)]);
 }

@@ -31,7 +31,7 @@ pub fn put_other_backs(out: &impl Print, arena: &[u32]) -> u32 {
 // What the reading call gives at a place from the low end, where that is not what it gave from the top.
 pub fn put_other_low(out: &impl Print, arena: &[u32], place: u32, top: maxplus::Reading) {
     let low = maxplus::read_low(arena, place);
-    if low.number != top.number || low.m != top.m || low.p != top.p {
+    if low != top {
         put_word(out, b" but low ", low.number);
         put_next(out, low.m);
         put_next(out, low.p);

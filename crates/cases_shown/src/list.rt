@@ -98,9 +98,9 @@ fn read_from(out: &impl Print, arena: &[u32], place: u32, low: bool) {
 
 // The same of an arena of so many words.
 pub fn show_reading(out: &impl Print, arena: &[u32], words: usize, place: u32, low: bool) {
-    if words > arena.len() {
+    let Some(arena) = arena.get(..words) else {
         put(out, b"arena too short\n");
         return;
-    }
-    read_from(out, &arena[..words], place, low);
+    };
+    read_from(out, arena, place, low);
 }

@@ -1,4 +1,5 @@
 // Numbers and bytes as text on an output. A write that fails is left out, and so is what it had to show.
+use crate::rooms::Unit;
 
 pub fn put(out: &impl Print, text: &[u8]) {
     let _ = out.write_all(text);
@@ -19,6 +20,11 @@ pub fn put_next(out: &impl Print, word: u32) {
     put_word(out, b" ", word);
 }
 
+// A byte as two hexadecimal digits.
+pub fn put_byte(out: &impl Print, byte: u8) {
+    let _ = print!(out; "{byte:02x}");
+}
+
 // A count in decimal, after a blank.
 pub fn put_count(out: &impl Print, count: usize) {
     put(out, b" ");
@@ -35,20 +41,9 @@ pub fn put_sum(out: &impl Print, sum: u64) {
     put_number(out, sum);
 }
 
-// Words, with a blank before each.
-pub fn put_row(out: &impl Print, words: &[u32]) {
-    for word in words {
-        put_next(out, *word);
-    }
-}
-
-fn put_byte(out: &impl Print, byte: u8) {
-    let _ = print!(out; "{byte:02x}");
-}
-
-// Bytes in hexadecimal.
-pub fn put_bytes(out: &impl Print, bytes: &[u8]) {
-    for byte in bytes {
-        put_byte(out, *byte);
+// Words or bytes, each as it stands in a row.
+pub fn put_row<T: Unit>(out: &impl Print, units: &[T]) {
+    for unit in units {
+        unit.put(out);
     }
 }

@@ -1,58 +1,44 @@
-// The buffers that a call is lent, before it is made, and lengths of their parts. Each `ensures` of a buffer gives only
-// the length, which lending a part needs.
-ghost use Rattle.std.specs.Prelude.{◌≡◌, ◌<◌, ◌≤◌, length};
+// The buffers that a call is lent: how long they are made, and what they hold before it.
+use crate::print::{put_byte, put_next};
 
-// What each word of a buffer holds before a call, and each byte of a text.
+// The length of an arena or a scratch: 16 words more than a call needs.
+pub const WORDS: usize = 16_400;
+
+// The length of an output: a face has at most 449 items, two words each, and a call is lent some words more.
+pub const OUTPUT: usize = 904;
+
+// The length of a buffer of levels.
+pub const LEVELS: usize = 1_024;
+
+// The length of a text: the call needs 13,645 bytes.
+pub const TEXT: usize = 13_700;
+
+// What each word of a buffer holds before a call, and each byte.
 pub const UNTOUCHED: u32 = 2_863_311_530;
 
 pub const BLANK: u8 = 170;
 
-// The room for an arena or a scratch: 16 words more than a call needs.
-pub const WORDS: usize = 16_400;
+// A word of a buffer, or a byte of a text or a file.
+pub trait Unit: Copy + PartialEq + Into<u32> {
+    // What each of a buffer holds before a call.
+    const BEFORE: Self;
 
-// The room for an output: a face has at most 449 items, two words each, and a call is lent some words more.
-pub const OUTPUT: usize = 904;
-
-const LEVELS: usize = 1_024;
-
-// The room for a text: the call needs 13,645 bytes.
-pub const TEXT: usize = 13_700;
-
-pub fn words_room(word: u32) -> [u32; WORDS]
-    ensures { 16_400 ≡ length result }
-{
-    [word; WORDS]
+    // Prints one of a row: a word in decimal after a blank, a byte as two hexadecimal digits.
+    fn put(self, out: &impl Print);
 }
 
-pub fn output_room() -> [u32; OUTPUT]
-    ensures { 904 ≡ length result }
-{
-    [UNTOUCHED; OUTPUT]
+impl Unit for u32 {
+    const BEFORE: u32 = UNTOUCHED;
+
+    fn put(self, out: &impl Print) {
+        put_next(out, self);
+    }
 }
 
-pub fn levels_room() -> [u8; LEVELS]
-    ensures { 1_024 ≡ length result }
-{
-    [0; LEVELS]
-}
+impl Unit for u8 {
+    const BEFORE: u8 = BLANK;
 
-pub fn text_room() -> [u8; TEXT]
-    ensures { 13_700 ≡ length result }
-{
-    [BLANK; TEXT]
-}
-
-// A number as a length.
-pub fn length_of(number: u32) -> usize
-    ensures { result < 4_294_967_296 }
-{
-    number as usize
-}
-
-// A number, or the most that it may be.
-pub fn at_most(number: u32, most: usize) -> usize
-    ensures { result ≤ most }
-{
-    let found = length_of(number);
-    if found < most { found } else { most }
+    fn put(self, out: &impl Print) {
+        put_byte(out, self);
+    }
 }
