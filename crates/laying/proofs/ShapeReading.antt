@@ -10,7 +10,7 @@ use Rattle.slicing.specs.Item.{Item, size}
 use Rattle.slicing.specs.Tree.{Tree}
 use Rattle.slicing.specs.Shapes.{shapes}
 use Rattle.packed.specs.inside.Packed.{pack, HasList}
-use Rattle.packed.specs.declared.merge.Stretch.{Stretch}
+use Rattle.packed.specs.declared.stretch.Stretch.{Stretch}
 use Rattle.packed.proofs.Reading.{ItemWord}
 use Rattle.packed.proofs.StoredLists.{Low, facing_low}
 use Rattle.stored.specs.inside.Store.{own_shapes, Stored}

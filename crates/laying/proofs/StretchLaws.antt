@@ -18,7 +18,7 @@ use Rattle.slicing.proofs.TurnLaws.{turn_ordered}
 use Rattle.entries.specs.inside.Kinds.{kind_of, across}
 use Rattle.packed.specs.inside.Packed.{facing, HasList}
 use Rattle.packed.specs.inside.Joining.{read_as}
-use Rattle.packed.specs.declared.merge.Stretch.{Stretch}
+use Rattle.packed.specs.declared.stretch.Stretch.{Stretch}
 use Rattle.stored.specs.inside.Store.{own_shapes, Stored}
 use Rattle.stored.specs.inside.Filling.{stretch_of}
 use Rattle.stored.proofs.PartLists.{entry_of, own_beside, own_stacked, kind_low}

@@ -12,7 +12,7 @@ use Rattle.slicing.specs.Shapes.{shapes}
 use Rattle.slicing.specs.Merge.{swap}
 use Rattle.slicing.specs.Fit.{no_taller}
 use Rattle.packed.specs.inside.Packed.{facing, HasList}
-use Rattle.packed.specs.declared.merge.Stretch.{Stretch}
+use Rattle.packed.specs.declared.stretch.Stretch.{Stretch}
 use Rattle.packed.proofs.Reading.{turn_at, ItemWord}
 use Rattle.packed.proofs.StoredLists.{facing_length, facing_low, p_is}
 use Rattle.stored.specs.inside.Store.{own_shapes}

@@ -10,7 +10,7 @@ use borrow.Author.Tests.{eqb-true, eqb-false}
 use Rattle.checks.proofs.Cases.{by_test}
 use Rattle.slicing.specs.Item.{Item}
 use Rattle.packed.specs.inside.Joining.{AtItem, Joinable, Joined}
-use Rattle.packed.specs.declared.merge.Stretch.{Stretch}
+use Rattle.packed.specs.declared.stretch.Stretch.{Stretch}
 use Rattle.packed.proofs.Merging.{Reads, Raised, Goes, raised, raised_fits, merging_room, merging_past, merging_fits, one_goes, merging_turn}
 use Rattle.packed.proofs.Places.{ReadAt, Moved, one_on, on_moved, not_moved, left, at_more, at_between, at_reads, at_moved, left_is}
 use Rattle.packed.proofs.Walking.{Walking, walking_start, walking_older_out, walking_newer_out, older_more, newer_more, older_inside, newer_inside, older_reads, newer_reads}

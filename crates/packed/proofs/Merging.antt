@@ -13,7 +13,7 @@ use Rattle.slicing.specs.Item.{Item, size}
 use Rattle.slicing.specs.Merge.{merge}
 use Rattle.packed.specs.inside.Packed.{pack, HasList}
 use Rattle.packed.specs.inside.Joining.{read_as, merge_of, Joinable, Joined}
-use Rattle.packed.specs.declared.merge.Stretch.{Stretch}
+use Rattle.packed.specs.declared.stretch.Stretch.{Stretch}
 use Rattle.packed.proofs.Reading.{ItemWord}
 use Rattle.packed.proofs.StoredLists.{Low, facing_length, facing_low, m_is, p_is, place_in, has_one, has_grown}
 use Rattle.packed.proofs.MergeTurns.{merge_nil, merge_turn}

@@ -1,4 +1,4 @@
--- The places of the items of a stretch, which go up, or down where the list is read turned: what `first_of`, `end_of`, `after` and `read_at` leave.
+-- The places of the items of a stretch, which go up, or down where the list is read turned: what `first`, `end`, `after` and `read` of a stretch leave.
 -- Each answers by the same test whether the list is turned, so every law goes by the two answers of it.
 use mathlib.Core.Path.{◌≡◌, refl, sym, ap, ◌∙◌}
 use mathlib.Core.Bool.{Bool, true, false, cond, true≢false}
@@ -8,7 +8,7 @@ use native.Mathlib.Omega.{arith}
 use lib.ListN.{get_or}
 use Rattle.checks.proofs.Cases.{by_test}
 use Rattle.packed.specs.inside.Joining.{AtItem}
-use Rattle.packed.specs.declared.merge.Stretch.{Stretch}
+use Rattle.packed.specs.declared.stretch.Stretch.{Stretch}
 use Rattle.packed.proofs.Reading.{read_along, read_across}
 use Rattle.packed.proofs.Merging.{Reads}
 
@@ -28,7 +28,7 @@ at_along a k place e f = record { along = λ no. f; turned = λ yes. absurd (tru
 pub at_turned : (a : Stretch) (k place : ℕ) → a.across ≡ true → place + k + 1 ≡ a.from + a.count → AtItem a k place
 at_turned a k place e f = record { along = λ no. absurd (true≢false (sym e ∙ no)); turned = λ yes. f }
 
--- What `read_at` answers, and a place that is n items after another.
+-- What `read` answers, and a place that is n items after another.
 abbrev pub ReadAt : List ℕ → ℕ → Bool → ℕ → Type 0
 ReadAt z i t x = Either t x (get_or z i 0) (65_536 * (get_or z i 0 % 65_536) + get_or z i 0 / 65_536)
 

@@ -6,7 +6,7 @@ use Prim.Native.Nat.{ℕ, ◌-◌, ◌^◌, ◌≤◌, ◌<◌}
 use native.Mathlib.Omega.{arith}
 use Rattle.slicing.specs.Item.{Item}
 use Rattle.packed.specs.inside.Joining.{Within, AtItem, Joinable, Joined}
-use Rattle.packed.specs.declared.merge.Stretch.{Stretch}
+use Rattle.packed.specs.declared.stretch.Stretch.{Stretch}
 use Rattle.packed.proofs.Merging.{Reads, Merging, merging_start, merging_older_out, merging_newer_out}
 use Rattle.packed.proofs.Places.{ReadAt, read_kept, at_more, at_out, at_between, at_reads}
 

@@ -1,7 +1,6 @@
-// An item in one word, and the items of a stored list, read as the list runs or turned.
-ghost use Rattle.std.specs.Prelude.{◌≡◌, List, ◌+◌, ◌*◌, ◌/◌, ◌%◌, ◌<◌, length, get_or};
-ghost use Rattle.slicing.specs.Item.{Item, size};
-ghost use Rattle.packed.specs.inside.Packed.{pack, facing, HasList};
+// An item in one word. The word stays a plain u32: the scratch is lent as words, and the merge adds to them, so a struct
+// around one would be taken off and put on again at every read, sum and store.
+ghost use Rattle.std.specs.Prelude.{◌≡◌, ◌+◌, ◌*◌, ◌/◌, ◌%◌, ◌<◌};
 
 // m in the high half, p in the low half.
 pub fn packed(m: u32, p: u32) -> u32
@@ -28,15 +27,4 @@ pub fn swapped(w: u32) -> u32
     ensures { result ≡ 65536 * (w % 65536) + w / 65536 }
 {
     65536 * (w % 65536) + w / 65536
-}
-
-// Item k of a stored list of `count` items: of the list turned, where `across` is true.
-pub fn read_item(scratch: &[u32], from: usize, count: usize, across: bool, k: usize) -> u32
-    requires { (l : List Item) × HasList scratch.now from l × (count ≡ length l) × (k < count) }
-    ensures { (l : List Item) → HasList scratch.now from l → count ≡ length l → result ≡ pack (get_or (facing across l) k (size 0 0)) }
-{
-    if across {
-        return swapped(scratch[from + (count - 1 - k)]);
-    }
-    scratch[from + k]
 }

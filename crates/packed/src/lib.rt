@@ -1,5 +1,6 @@
-// An item in one word, and the merge of two lists of such words.
+// An item in one word, lists of such words, read either way, and the merge of two of them.
 #![tactic(auto)]
 
 pub mod item;
 pub mod merge;
+pub mod stretch;

@@ -20,7 +20,7 @@ use Rattle.facefile.specs.Format.{face_of}
 use Rattle.facefile.proofs.Taken.{face_taken}
 use Rattle.lent.specs.Lent.{written_over}
 use Rattle.packed.specs.inside.Packed.{facing, HasList}
-use Rattle.packed.specs.declared.merge.Stretch.{Stretch}
+use Rattle.packed.specs.declared.stretch.Stretch.{Stretch}
 use Rattle.packed.proofs.StoredLists.{m_is, p_is}
 use Rattle.stored.specs.inside.Store.{own_shapes, Stored}
 use Rattle.stored.specs.inside.Filling.{stretch_of, Filled}

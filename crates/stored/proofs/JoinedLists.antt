@@ -15,7 +15,7 @@ use Rattle.slicing.specs.Merge.{merge}
 use Rattle.entries.specs.inside.Kinds.{kind_of, across}
 use Rattle.packed.specs.inside.Packed.{facing, HasList}
 use Rattle.packed.specs.inside.Joining.{merge_of, Joinable, Joined}
-use Rattle.packed.specs.declared.merge.Stretch.{Stretch}
+use Rattle.packed.specs.declared.stretch.Stretch.{Stretch}
 use Rattle.packed.proofs.Merging.{sums_low}
 use Rattle.stored.specs.inside.Store.{own_shapes, Entry}
 use Rattle.stored.specs.inside.Filling.{entry_at, Between, stretch_of, Added}

@@ -6,7 +6,7 @@ use Rattle.slicing.specs.Item.{Item}
 use Rattle.slicing.specs.Tree.{Tree, gauge, beside, stacked, gauge_count}
 use Rattle.facefile.specs.Format.{face_of}
 use Rattle.entries.specs.inside.Kinds.{across}
-use Rattle.packed.specs.declared.merge.Stretch.{Stretch}
+use Rattle.packed.specs.declared.stretch.Stretch.{Stretch}
 use Rattle.stored.specs.inside.Store.{own_shapes, Entry, Stored}
 
 -- The scratch with the four words of part e.

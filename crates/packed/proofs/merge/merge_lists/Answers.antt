@@ -7,31 +7,31 @@ use Rattle.packed.proofs.HeldWords.{starts_inside, holding_start, start_fits, ho
 use Rattle.packed.proofs.HeldWords.{turn_newer, turn_older, turn_both, turn_newer_out, turn_less, next_fits, newer_again, older_again, both_again, older_next, newer_next, older_last}
 use Rattle.packed.proofs.merge.merge_lists.Goals as goal
 
-pub first_of-i-requires : goal.first_of-i-requires
-first_of-i-requires c = (within_both _ _ _ _ _ c.requires c.ranges.to.fits).0
+pub first-i-requires : goal.first-i-requires
+first-i-requires c = (within_both _ _ _ _ _ c.requires c.ranges.to.fits).0
 
-pub first_of-j-requires : goal.first_of-j-requires
-first_of-j-requires c = (within_both _ _ _ _ _ c.requires c.ranges.to.fits).1
+pub first-j-requires : goal.first-j-requires
+first-j-requires c = (within_both _ _ _ _ _ c.requires c.ranges.to.fits).1
 
-pub end_of-end-requires : goal.end_of-end-requires
-end_of-end-requires c = (within_both _ _ _ _ _ c.requires c.ranges.to.fits).0
+pub end-end-requires : goal.end-end-requires
+end-end-requires c = (within_both _ _ _ _ _ c.requires c.ranges.to.fits).0
 
-pub end_of-stop-requires : goal.end_of-stop-requires
-end_of-stop-requires c = (within_both _ _ _ _ _ c.requires c.ranges.to.fits).1
+pub end-stop-requires : goal.end-stop-requires
+end-stop-requires c = (within_both _ _ _ _ _ c.requires c.ranges.to.fits).1
 
-pub read_at-x-requires : goal.read_at-x-requires
-read_at-x-requires c = (starts_inside _ _ _ _ _ _ _ c.requires c.first_of-i.ensures c.first_of-j.ensures).0
+pub read-x-requires : goal.read-x-requires
+read-x-requires c = (starts_inside _ _ _ _ _ _ _ c.requires c.first-i.ensures c.first-j.ensures).0
 
-pub read_at-requires : goal.read_at-requires
-read_at-requires c = (starts_inside _ _ _ _ _ _ _ c.requires c.first_of-i.ensures c.first_of-j.ensures).1
+pub read-requires : goal.read-requires
+read-requires c = (starts_inside _ _ _ _ _ _ _ c.requires c.first-i.ensures c.first-j.ensures).1
 
 pub overflow_add-y : goal.overflow_add-y
 overflow_add-y c =
-    record { fits = start_fits _ _ _ _ _ _ _ c.requires c.first_of-j.ensures (c.read_at.ensures.along, c.read_at.ensures.turned) }
+    record { fits = start_fits _ _ _ _ _ _ _ c.requires c.first-j.ensures (c.read.ensures.along, c.read.ensures.turned) }
 
 pub loop-scratch-init : goal.loop-scratch-init
 loop-scratch-init c =
-    holding_start _ _ _ _ _ _ _ _ _ _ _ c.requires c.first_of-i.ensures c.first_of-j.ensures c.end_of-end.ensures c.end_of-stop.ensures (c.read_at-x.ensures.along, c.read_at-x.ensures.turned) (c.read_at.ensures.along, c.read_at.ensures.turned)
+    holding_start _ _ _ _ _ _ _ _ _ _ _ c.requires c.first-i.ensures c.first-j.ensures c.end-end.ensures c.end-stop.ensures (c.read-x.ensures.along, c.read-x.ensures.turned) (c.read.ensures.along, c.read.ensures.turned)
 
 pub overflow_add-scratch : goal.overflow_add-scratch
 overflow_add-scratch c =
@@ -59,14 +59,14 @@ returns-then-j-stop c =
     let turn = turn_newer _ _ _ _ _ _ _ _ _ _ c.m_of-m.ensures c.m_of-n.ensures c.if-m-n.true c.p_of.ensures (c.after-j.ensures.along, c.after-j.ensures.turned) in
     turn_newer_out _ _ _ _ _ _ _ _ _ _ _ _ _ c.loop-scratch.invariant _ _ _ _ _ turn c.if-j-stop.true
 
-pub read_at-requires-then-m-n : goal.read_at-requires-then-m-n
-read_at-requires-then-m-n c =
+pub read-requires-then-m-n : goal.read-requires-then-m-n
+read-requires-then-m-n c =
     newer_next _ _ _ _ _ _ _ _ _ _ _ _ _ c.loop-scratch.invariant _ _ (c.after-j.ensures.along, c.after-j.ensures.turned) c.if-j-stop.false
 
 pub overflow_add-y-then-m-n : goal.overflow_add-y-then-m-n
 overflow_add-y-then-m-n c =
     let turn = turn_newer _ _ _ _ _ _ _ _ _ _ c.m_of-m.ensures c.m_of-n.ensures c.if-m-n.true c.p_of.ensures (c.after-j.ensures.along, c.after-j.ensures.turned) in
-    record { fits = next_fits _ _ _ _ _ _ _ _ _ _ _ _ _ c.loop-scratch.invariant _ _ _ _ _ turn _ c.if-j-stop.false (c.read_at-then-m-n.ensures.along, c.read_at-then-m-n.ensures.turned) }
+    record { fits = next_fits _ _ _ _ _ _ _ _ _ _ _ _ _ c.loop-scratch.invariant _ _ _ _ _ turn _ c.if-j-stop.false (c.read-then-m-n.ensures.along, c.read-then-m-n.ensures.turned) }
 
 pub loop-scratch-smaller-then-m-n : goal.loop-scratch-smaller-then-m-n
 loop-scratch-smaller-then-m-n c =
@@ -76,7 +76,7 @@ loop-scratch-smaller-then-m-n c =
 pub loop-scratch-preserved-then-m-n : goal.loop-scratch-preserved-then-m-n
 loop-scratch-preserved-then-m-n c =
     let turn = turn_newer _ _ _ _ _ _ _ _ _ _ c.m_of-m.ensures c.m_of-n.ensures c.if-m-n.true c.p_of.ensures (c.after-j.ensures.along, c.after-j.ensures.turned) in
-    newer_again _ _ _ _ _ _ _ _ _ _ _ _ _ c.loop-scratch.invariant _ _ _ turn c.if-j-stop.false (c.read_at-then-m-n.ensures.along, c.read_at-then-m-n.ensures.turned)
+    newer_again _ _ _ _ _ _ _ _ _ _ _ _ _ c.loop-scratch.invariant _ _ _ turn c.if-j-stop.false (c.read-then-m-n.ensures.along, c.read-then-m-n.ensures.turned)
 
 pub overflow_add-scratch-else-m-n : goal.overflow_add-scratch-else-m-n
 overflow_add-scratch-else-m-n c =
@@ -103,8 +103,8 @@ pub returns-then-i-end : goal.returns-then-i-end
 returns-then-i-end c =
     older_last _ _ _ _ _ _ _ _ _ _ _ _ _ c.loop-scratch.invariant _ _ _ _ c.m_of-m.ensures c.m_of-n.ensures c.if-m-n.false c.p_of-else-m-n.ensures (c.after-i.ensures.along, c.after-i.ensures.turned) c.if-i-end.true
 
-pub read_at-x-requires-else-m-n : goal.read_at-x-requires-else-m-n
-read_at-x-requires-else-m-n c =
+pub read-x-requires-else-m-n : goal.read-x-requires-else-m-n
+read-x-requires-else-m-n c =
     older_next _ _ _ _ _ _ _ _ _ _ _ _ _ c.loop-scratch.invariant _ _ (c.after-i.ensures.along, c.after-i.ensures.turned) c.if-i-end.false
 
 pub after-j-requires-then-m-n-2 : goal.after-j-requires-then-m-n-2
@@ -120,14 +120,14 @@ returns-then-j-stop-2 c =
     let turn = turn_both _ _ _ _ _ _ _ _ _ _ _ c.m_of-m.ensures c.m_of-n.ensures c.if-m-n-2.true c.p_of-else-m-n.ensures (c.after-i.ensures.along, c.after-i.ensures.turned) (c.after-j-then-m-n-2.ensures.along, c.after-j-then-m-n-2.ensures.turned) in
     turn_newer_out _ _ _ _ _ _ _ _ _ _ _ _ _ c.loop-scratch.invariant _ _ _ _ _ turn c.if-j-stop-2.true
 
-pub read_at-requires-then-m-n-2 : goal.read_at-requires-then-m-n-2
-read_at-requires-then-m-n-2 c =
+pub read-requires-then-m-n-2 : goal.read-requires-then-m-n-2
+read-requires-then-m-n-2 c =
     newer_next _ _ _ _ _ _ _ _ _ _ _ _ _ c.loop-scratch.invariant _ _ (c.after-j-then-m-n-2.ensures.along, c.after-j-then-m-n-2.ensures.turned) c.if-j-stop-2.false
 
 pub overflow_add-y-then-m-n-2 : goal.overflow_add-y-then-m-n-2
 overflow_add-y-then-m-n-2 c =
     let turn = turn_both _ _ _ _ _ _ _ _ _ _ _ c.m_of-m.ensures c.m_of-n.ensures c.if-m-n-2.true c.p_of-else-m-n.ensures (c.after-i.ensures.along, c.after-i.ensures.turned) (c.after-j-then-m-n-2.ensures.along, c.after-j-then-m-n-2.ensures.turned) in
-    record { fits = next_fits _ _ _ _ _ _ _ _ _ _ _ _ _ c.loop-scratch.invariant _ _ _ _ _ turn _ c.if-j-stop-2.false (c.read_at-then-m-n-2.ensures.along, c.read_at-then-m-n-2.ensures.turned) }
+    record { fits = next_fits _ _ _ _ _ _ _ _ _ _ _ _ _ c.loop-scratch.invariant _ _ _ _ _ turn _ c.if-j-stop-2.false (c.read-then-m-n-2.ensures.along, c.read-then-m-n-2.ensures.turned) }
 
 pub loop-scratch-smaller-then-m-n-2 : goal.loop-scratch-smaller-then-m-n-2
 loop-scratch-smaller-then-m-n-2 c =
@@ -137,7 +137,7 @@ loop-scratch-smaller-then-m-n-2 c =
 pub loop-scratch-preserved-then-m-n-2 : goal.loop-scratch-preserved-then-m-n-2
 loop-scratch-preserved-then-m-n-2 c =
     let turn = turn_both _ _ _ _ _ _ _ _ _ _ _ c.m_of-m.ensures c.m_of-n.ensures c.if-m-n-2.true c.p_of-else-m-n.ensures (c.after-i.ensures.along, c.after-i.ensures.turned) (c.after-j-then-m-n-2.ensures.along, c.after-j-then-m-n-2.ensures.turned) in
-    both_again _ _ _ _ _ _ _ _ _ _ _ _ _ c.loop-scratch.invariant _ _ _ _ _ turn c.if-i-end.false c.if-j-stop-2.false (c.read_at-x-else-m-n.ensures.along, c.read_at-x-else-m-n.ensures.turned) (c.read_at-then-m-n-2.ensures.along, c.read_at-then-m-n-2.ensures.turned)
+    both_again _ _ _ _ _ _ _ _ _ _ _ _ _ c.loop-scratch.invariant _ _ _ _ _ turn c.if-i-end.false c.if-j-stop-2.false (c.read-x-else-m-n.ensures.along, c.read-x-else-m-n.ensures.turned) (c.read-then-m-n-2.ensures.along, c.read-then-m-n-2.ensures.turned)
 
 pub loop-scratch-smaller : goal.loop-scratch-smaller
 loop-scratch-smaller c =
@@ -147,4 +147,4 @@ loop-scratch-smaller c =
 pub loop-scratch-preserved : goal.loop-scratch-preserved
 loop-scratch-preserved c =
     let turn = turn_older _ _ _ _ _ _ _ _ _ _ c.m_of-m.ensures c.m_of-n.ensures c.if-m-n.false c.if-m-n-2.false c.p_of-else-m-n.ensures (c.after-i.ensures.along, c.after-i.ensures.turned) in
-    older_again _ _ _ _ _ _ _ _ _ _ _ _ _ c.loop-scratch.invariant _ _ _ turn c.if-i-end.false (c.read_at-x-else-m-n.ensures.along, c.read_at-x-else-m-n.ensures.turned)
+    older_again _ _ _ _ _ _ _ _ _ _ _ _ _ c.loop-scratch.invariant _ _ _ turn c.if-i-end.false (c.read-x-else-m-n.ensures.along, c.read-x-else-m-n.ensures.turned)

@@ -1,14 +1,16 @@
 -- `picking::pick::pick` meets its contract.
--- The loop keeps `Looking`, that the place kept is that of the pick of the items passed; the measure is the number of items left.
+-- The loop keeps `Looking`, that the place kept is that of the pick of the items passed.
+use mathlib.Core.Logic.{inl, inr}
 use borrow.Author.Rules.{rules}
-use Rattle.picking.proofs.Looking.{can_read, halves_low, looking_start, looking_high, looking_wide, looking_worse, looking_taken, looking_done}
+use Rattle.picking.proofs.Looking.{can_read, halves_low, looking_start, looking_past, looking_worse, looking_taken, looking_done}
 use Rattle.picking.proofs.pick.pick.Goals as goal
+use Rattle.picking.proofs.pick.pick.Goals.{else-h-height-via-then-h-height+else-w-width, else-h-height-via-else-h-height}
 
 pub loop-k-init : goal.loop-k-init
 loop-k-init c = search (rules, looking_start)
 
-pub read_item-z-requires : goal.read_item-z-requires
-read_item-z-requires c = can_read _ _ _ _ _ _ _ _ _ c.requires c.loop-k.invariant c.loop-k-test.true
+pub item-z-requires : goal.item-z-requires
+item-z-requires c = can_read _ _ _ _ _ _ _ c.requires c.loop-k.invariant c.loop-k-test.true
 
 pub rank_of-rank-requires : goal.rank_of-rank-requires
 rank_of-rank-requires c = search (rules, halves_low)
@@ -19,11 +21,13 @@ loop-k-preserved-then-rank-best c = search (rules, looking_taken)
 pub loop-k-preserved-else-rank-best : goal.loop-k-preserved-else-rank-best
 loop-k-preserved-else-rank-best c = search (rules, looking_worse)
 
-pub loop-k-preserved-else-w-width : goal.loop-k-preserved-else-w-width
-loop-k-preserved-else-w-width c = search (rules, looking_wide)
-
 pub loop-k-preserved : goal.loop-k-preserved
-loop-k-preserved c = search (rules, looking_high)
+loop-k-preserved c =
+    looking_past _ _ _ _ _ _ _ _ _ _ c.loop-k.invariant c.loop-k-test.true c.item-z.ensures c.m_of-h.ensures c.p_of-w.ensures
+    (elim c.else-h-height.branch [
+      | else-h-height-via-then-h-height+else-w-width w ↦ inr (w.if-h-height.true, w.if-w-width.false)
+      | else-h-height-via-else-h-height w ↦ inl w.if-h-height.false
+    ])
 
 pub returns : goal.returns
-returns c = search (rules, looking_done)
+returns c = looking_done _ _ _ _ _ _ _ c.loop-k.invariant c.loop-k-test.false
