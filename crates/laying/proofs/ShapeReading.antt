@@ -14,7 +14,7 @@ use Rattle.packed.specs.declared.stretch.Stretch.{Stretch}
 use Rattle.packed.proofs.Reading.{ItemWord}
 use Rattle.packed.proofs.StoredLists.{Low, facing_low}
 use Rattle.stored.specs.inside.Store.{own_shapes, Stored}
-use Rattle.stored.specs.inside.Filling.{stretch_of}
+use Rattle.stored.specs.inside.PartWords.{stretch_of}
 use Rattle.stored.proofs.PartLists.{own_length}
 use Rattle.laying.specs.inside.Laying.{shape_at}
 use Rattle.laying.proofs.StretchLaws.{stretch_ready, stretch_list, stretch_count, stretch_facing}

@@ -20,7 +20,7 @@ use Rattle.packed.specs.inside.Packed.{facing, HasList}
 use Rattle.packed.specs.inside.Joining.{read_as}
 use Rattle.packed.specs.declared.stretch.Stretch.{Stretch}
 use Rattle.stored.specs.inside.Store.{own_shapes, Stored}
-use Rattle.stored.specs.inside.Filling.{stretch_of}
+use Rattle.stored.specs.inside.PartWords.{stretch_of}
 use Rattle.stored.proofs.PartLists.{entry_of, own_beside, own_stacked, kind_low}
 use Rattle.laying.specs.inside.Taking.{join_kind}
 

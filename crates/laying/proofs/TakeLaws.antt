@@ -16,7 +16,7 @@ use Rattle.packed.specs.declared.stretch.Stretch.{Stretch}
 use Rattle.packed.proofs.Reading.{turn_at, ItemWord}
 use Rattle.packed.proofs.StoredLists.{facing_length, facing_low, p_is}
 use Rattle.stored.specs.inside.Store.{own_shapes}
-use Rattle.stored.specs.inside.Filling.{stretch_of}
+use Rattle.stored.specs.inside.PartWords.{stretch_of}
 use Rattle.stored.proofs.PartLists.{own_length}
 use Rattle.laying.specs.inside.Taking.{HasLow, Searchable, FirstLow, facing_item, join_kind, Takable, Takes}
 use Rattle.laying.proofs.StretchLaws.{stretch_ready, stretch_list, stretch_count, stretch_facing, own_ordered}

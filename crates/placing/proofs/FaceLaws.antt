@@ -23,7 +23,8 @@ use Rattle.packed.specs.inside.Packed.{facing, HasList}
 use Rattle.packed.specs.declared.stretch.Stretch.{Stretch}
 use Rattle.packed.proofs.StoredLists.{m_is, p_is}
 use Rattle.stored.specs.inside.Store.{own_shapes, Stored}
-use Rattle.stored.specs.inside.Filling.{stretch_of, Filled}
+use Rattle.stored.specs.inside.PartWords.{stretch_of}
+use Rattle.stored.specs.inside.Filling.{Filled}
 use Rattle.stored.proofs.PartLists.{own_length}
 use Rattle.picking.specs.inside.Picking.{pick_at, Picks}
 use Rattle.picking.proofs.Looking.{product_low}

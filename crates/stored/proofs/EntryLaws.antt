@@ -8,7 +8,8 @@ use lib.ListN.{length, get_or, set, length-set}
 use lib.Seq.{lt-length-set, get_or-set_same, get_or-set_other}
 use Rattle.slicing.specs.Item.{Item}
 use Rattle.packed.specs.inside.Packed.{HasList}
-use Rattle.stored.specs.inside.Filling.{entry_at, Added}
+use Rattle.stored.specs.inside.PartWords.{entry_at}
+use Rattle.stored.specs.inside.Filling.{Added}
 
 -- Each of the four words is inside.
 pub room_second : (s : List ℕ) (e v : ℕ) → 4 * e + 4 ≤ length s → 4 * e + 1 < length (set s (4 * e) v)

@@ -1,12 +1,11 @@
 -- What the loop over the entries keeps: the parts of the stack are the last parts of the table, and their lists follow it.
 -- A gauge and a join each add one part after those that are there.
 use mathlib.Core.Path.{◌≡◌, refl, sym, ap, subst, ◌∙◌}
-use mathlib.Core.Bool.{Bool, false, not}
+use mathlib.Core.Bool.{Bool, true}
 use mathlib.Core.List.{List, [], ◌∷◌}
 use Prim.Native.Nat.{ℕ, ◌+◌, ◌*◌, ◌-◌, ◌≤◌, ◌<◌}
 use native.Mathlib.Omega.{arith}
 use lib.ListN.{length, get_or, length-append}
-use borrow.Author.Tests.{not-false}
 use Rattle.checks.specs.Limits.{buffer_words}
 use Rattle.checks.specs.Answer.{taken}
 use Rattle.slicing.specs.Item.{Item}
@@ -20,7 +19,8 @@ use Rattle.facefile.specs.declared.walk.Entry.{Entry as FileEntry}
 use Rattle.facefile.specs.declared.walk.Entry.TheVariants.{Gauge, Join}
 use Rattle.sizes.specs.Rules.{asks_order}
 use Rattle.facefile.specs.Format.{rules_of, face_of}
-use Rattle.entries.specs.inside.Kinds.{Cut, cut_beside, cut_stacked}
+use Rattle.entries.specs.declared.kinds.Kind.{Kind}
+use Rattle.entries.specs.inside.Kinds.{byte_of, Cut, cut_beside, cut_stacked}
 use Rattle.sizes.specs.inside.Sizes.{sizes_in}
 use Rattle.entries.specs.inside.Tracking.{flat}
 use Rattle.facefile.specs.inside.Walk.{first_entry, Walk, size_bytes_of, GaugeAt, JoinAt, Finds}
@@ -30,6 +30,7 @@ use Rattle.useful.proofs.FirstDigits.{first_word_is}
 use Rattle.facefile.proofs.WalkSteps.{walk_start, walk_end, found_gauge, found_join}
 use Rattle.facefile.proofs.WalkStack.{walk_good, walk_gauges, walk_face, join_good, join_gauges}
 use Rattle.stored.specs.inside.Store.{own_shapes, Entry, Named, Stored}
+use Rattle.stored.specs.inside.PartWords.{kind_read}
 use Rattle.stored.specs.inside.Filling.{Between, Lies, Added, Rows, Fillable, Filled}
 use Rattle.stored.specs.inside.Adding.{Room, GaugeAdded, JoinRoom}
 use Rattle.stored.proofs.PartLists.{entry_of, own_gauge, own_length, own_few, cut_gauges, cut_short}
@@ -62,6 +63,10 @@ lies_between : (gap : ℕ) (s : List ℕ) (to x : ℕ) (t : Tree) → Lies gap s
 lies_between gap s to x (gauge z) l = l.0
 lies_between gap s to x (beside a b) l = l.0
 lies_between gap s to x (stacked a b) l = l.0
+
+kind_same : (kind : ℕ) (cut : Tree → Tree → Tree) → Cut kind cut → byte_of (kind_read kind) ≡ kind
+kind_same kind cut cut_beside = refl
+kind_same kind cut cut_stacked = refl
 
 -- The same of both joins.
 cut_used : (gap kind : ℕ) (cut : Tree → Tree → Tree) → Cut kind cut → (a b : Tree) → part_words gap (cut a b) ≡ part_words gap a + part_words gap b + length (own_shapes gap (cut a b))
@@ -121,9 +126,9 @@ module _ (gap : ℕ) (file s₀ s : List ℕ) (at part to : ℕ) (k : Filling ga
       gauge_bytes = record { sized = here.sized; some = here.some; few = here.few }
 
       -- The sizes of a gauge that was asked for its order stand in order.
-      pub gauge_in_order : (known : Bool) → known ≡ asks_order (rules_of file) → not known ≡ false → (word : ℕ) → word ≡ counting_word g.count → word ≡ order_word sizes
+      pub gauge_in_order : (known : Bool) → known ≡ asks_order (rules_of file) → known ≡ true → (word : ℕ) → word ≡ counting_word g.count → word ≡ order_word sizes
       gauge_in_order known Known-is asked word word_is =
-          first_word_is g.count (size_bytes_of file g) word (here.order (sym Known-is ∙ not-false known asked)) word_is
+          first_word_is g.count (size_bytes_of file g) word (here.order (sym Known-is ∙ asked)) word_is
 
       pub gauge_room : Room s part to (g.count + 1)
       gauge_room =
@@ -238,66 +243,74 @@ module _ (gap : ℕ) (file s₀ s : List ℕ) (at part to : ℕ) (k : Filling ga
       pub join_part : part + 1 < 128
       join_part = let n = numbers in omega arith
 
-      pub join_ready : (c : Tree → Tree → Tree) × (a : Tree) × (b : Tree) × JoinRoom gap s part to kind c a b
-      join_ready = (joining.cut, older, newer, join_room)
+      -- The kind of the byte, whose number is the byte.
+      module _ (join : Kind) (read : join ≡ kind_read kind) where
+        join_is : byte_of join ≡ kind
+        join_is = ap byte_of read ∙ kind_same kind joining.cut cut
 
-      abbrev Joined : List ℕ → ℕ → Type 0
-      Joined z n =
-          (c : Tree → Tree → Tree) (a b : Tree) → JoinRoom gap s part to kind c a b → Added s z part to kind (gauge_count a + gauge_count b) (own_shapes gap (c a b)) × (n ≡ length (own_shapes gap (c a b)))
+        room_by_kind : JoinRoom gap s part to (byte_of join) joining.cut older newer
+        room_by_kind = subst (λ (n : ℕ). JoinRoom gap s part to n joining.cut older newer) (sym join_is) join_room
 
-      module _ (z : List ℕ) (n : ℕ) (joined : Joined z n) where
-        abbrev added : Added s z part to kind (gauge_count older + gauge_count newer) (own_shapes gap (joining.cut older newer))
-        added = (joined joining.cut older newer join_room).0
+        pub join_ready : (c : Tree → Tree → Tree) × (a : Tree) × (b : Tree) × JoinRoom gap s part to (byte_of join) c a b
+        join_ready = (joining.cut, older, newer, room_by_kind)
 
-        item_count : n ≡ length (own_shapes gap (joining.cut older newer))
-        item_count = (joined joining.cut older newer join_room).1
+        abbrev Joined : List ℕ → ℕ → Type 0
+        Joined z n =
+            (c : Tree → Tree → Tree) (a b : Tree) → JoinRoom gap s part to (byte_of join) c a b → Added s z part to (byte_of join) (gauge_count a + gauge_count b) (own_shapes gap (c a b)) × (n ≡ length (own_shapes gap (c a b)))
 
-        pub join_fits : to + n < 65_536
-        join_fits =
-            let p = place_few in
-            let m = item_count in
-            let short = cut_short gap kind joining.cut cut older newer good.1 good.0 gauges_few in
-            omega arith
+        module _ (z : List ℕ) (n : ℕ) (joined : Joined z n) where
+          abbrev added : Added s z part to kind (gauge_count older + gauge_count newer) (own_shapes gap (joining.cut older newer))
+          added = subst (λ (k : ℕ). Added s z part to k (gauge_count older + gauge_count newer) (own_shapes gap (joining.cut older newer))) join_is (joined joining.cut older newer room_by_kind).0
 
-        new_stored : Stored gap z part (joining.cut older newer)
-        new_stored =
-            cut_stored gap kind joining.cut cut older newer z part added.entry (let w = numbers.2 in let second = stand.4.1 in let first = stand.1 in omega arith)
-            (stored_frame gap s z part to (to + n) added.length_kept added.table_kept added.lists_kept (omega arith) newer (part - 1) (let w = numbers.1 in omega arith) stand.2 stand.3)
-            (stored_frame gap s z part to (to + n) added.length_kept added.table_kept added.lists_kept (omega arith) older (part - 2 * gauge_count newer) (let w = numbers.2 in let y = depth_few newer in omega arith) older_stored.0 older_stored.1)
+          item_count : n ≡ length (own_shapes gap (joining.cut older newer))
+          item_count = (joined joining.cut older newer room_by_kind).1
 
-        new_lies : Lies gap z (to + n) part (joining.cut older newer)
-        new_lies =
-            cut_lies gap kind joining.cut cut older newer z (to + n) part
-            (let f = added.from_is in let p = place_few in let m = item_count in (omega arith, omega arith))
-            (lies_frame gap s z part to (to + n) added.length_kept added.table_kept added.lists_kept (omega arith) newer (part - 1) (let w = numbers.1 in omega arith) stand.3)
-            (lies_frame gap s z part to (to + n) added.length_kept added.table_kept added.lists_kept (omega arith) older (part - 2 * gauge_count newer) (let w = numbers.2 in let y = depth_few newer in omega arith) older_stored.1)
+          pub join_fits : to + n < 65_536
+          join_fits =
+              let p = place_few in
+              let m = item_count in
+              let short = cut_short gap kind joining.cut cut older newer good.1 good.0 gauges_few in
+              omega arith
 
-        pub filling_join : Filling gap file s₀ z behind (part + 1) (to + n)
-        filling_join =
-            let back : part ≡ part + 1 - 1 = omega arith in
-            let first = stand.1 in
-            let second = stand.4.1 in
-            let g = cut_gauges kind joining.cut cut older newer in
-            let below : Rows gap z (to + n) rest lo = rows_frame gap s z part to (to + n) added.length_kept added.table_kept added.lists_kept (omega arith) rest lo (let x = depth_few older in let y = depth_few newer in omega arith) stand.4.4 in
-            record {
-              ready = k.ready;
-              stack = joining.cut older newer ∷ rest;
-              walk = joining.walk;
-              length_kept = added.length_kept ∙ k.length_kept;
-              rows = (
-                lo,
-                omega arith,
-                subst (λ (x : ℕ). Stored gap z x (joining.cut older newer)) back new_stored,
-                subst (λ (x : ℕ). Lies gap z (to + n) x (joining.cut older newer)) back new_lies,
-                below,
-              );
-              used_is =
-                  let u = k.used_is in
-                  let before = ap (used gap) joining.two in
-                  let m = item_count in
-                  let w = cut_used gap kind joining.cut cut older newer in
-                  omega arith;
-            }
+          new_stored : Stored gap z part (joining.cut older newer)
+          new_stored =
+              cut_stored gap kind joining.cut cut older newer z part added.entry (let w = numbers.2 in let second = stand.4.1 in let first = stand.1 in omega arith)
+              (stored_frame gap s z part to (to + n) added.length_kept added.table_kept added.lists_kept (omega arith) newer (part - 1) (let w = numbers.1 in omega arith) stand.2 stand.3)
+              (stored_frame gap s z part to (to + n) added.length_kept added.table_kept added.lists_kept (omega arith) older (part - 2 * gauge_count newer) (let w = numbers.2 in let y = depth_few newer in omega arith) older_stored.0 older_stored.1)
+
+          new_lies : Lies gap z (to + n) part (joining.cut older newer)
+          new_lies =
+              cut_lies gap kind joining.cut cut older newer z (to + n) part
+              (let f = added.from_is in let p = place_few in let m = item_count in (omega arith, omega arith))
+              (lies_frame gap s z part to (to + n) added.length_kept added.table_kept added.lists_kept (omega arith) newer (part - 1) (let w = numbers.1 in omega arith) stand.3)
+              (lies_frame gap s z part to (to + n) added.length_kept added.table_kept added.lists_kept (omega arith) older (part - 2 * gauge_count newer) (let w = numbers.2 in let y = depth_few newer in omega arith) older_stored.1)
+
+          pub filling_join : Filling gap file s₀ z behind (part + 1) (to + n)
+          filling_join =
+              let back : part ≡ part + 1 - 1 = omega arith in
+              let first = stand.1 in
+              let second = stand.4.1 in
+              let g = cut_gauges kind joining.cut cut older newer in
+              let below : Rows gap z (to + n) rest lo = rows_frame gap s z part to (to + n) added.length_kept added.table_kept added.lists_kept (omega arith) rest lo (let x = depth_few older in let y = depth_few newer in omega arith) stand.4.4 in
+              record {
+                ready = k.ready;
+                stack = joining.cut older newer ∷ rest;
+                walk = joining.walk;
+                length_kept = added.length_kept ∙ k.length_kept;
+                rows = (
+                  lo,
+                  omega arith,
+                  subst (λ (x : ℕ). Stored gap z x (joining.cut older newer)) back new_stored,
+                  subst (λ (x : ℕ). Lies gap z (to + n) x (joining.cut older newer)) back new_lies,
+                  below,
+                );
+                used_is =
+                    let u = k.used_is in
+                    let before = ap (used gap) joining.two in
+                    let m = item_count in
+                    let w = cut_used gap kind joining.cut cut older newer in
+                    omega arith;
+              }
 
   module _ (over : length file ≤ at) where
     last_stack : k.stack ≡ face ∷ []

@@ -1,27 +1,32 @@
 -- Adding a join to the stored parts: its calls are ready, and what they leave is the join's list and its words in the table, whichever of the two parts is merged first.
 -- The two parts stand before it, the merge is written after all lists, and the merge of the two exchanged is the same list.
 use mathlib.Core.Path.{◌≡◌, refl, sym, ap, ap₂, subst, ◌∙◌}
-use mathlib.Core.Bool.{Bool}
+use mathlib.Core.Bool.{Bool, true, false, cond, not}
 use mathlib.Core.Logic.{◌⊎◌, inl, inr, ⊎_elim}
 use mathlib.Core.List.{List, Memᴰ}
-use Prim.Native.Nat.{ℕ, ◌+◌, ◌*◌, ◌-◌, ◌≤◌, ◌<◌}
+use Prim.Native.Nat.{ℕ, ◌+◌, ◌*◌, ◌-◌, ◌^◌, ◌≤◌, ◌<◌}
 use native.Mathlib.Omega.{arith}
+use lib.Dec.{eqb}
 use lib.ListN.{length, get_or}
 use Rattle.checks.specs.Limits.{buffer_words}
 use Rattle.slicing.specs.Item.{Item}
 use Rattle.slicing.specs.Tree.{Tree, gauge_count}
 use Rattle.slicing.specs.Good.{Good}
 use Rattle.slicing.specs.Merge.{merge}
-use Rattle.entries.specs.inside.Kinds.{kind_of, across}
+use Rattle.entries.specs.inside.Kinds.{byte_of, kind_of, across}
 use Rattle.packed.specs.inside.Packed.{facing, HasList}
 use Rattle.packed.specs.inside.Joining.{merge_of, Joinable, Joined}
 use Rattle.packed.specs.declared.stretch.Stretch.{Stretch}
 use Rattle.packed.proofs.Merging.{sums_low}
 use Rattle.stored.specs.inside.Store.{own_shapes, Entry}
-use Rattle.stored.specs.inside.Filling.{entry_at, Between, stretch_of, Added}
+use Rattle.entries.specs.declared.kinds.Kind.{Kind}
+use Rattle.entries.specs.declared.kinds.Kind.TheVariants.{Gauge, Beside, Stacked}
+use Rattle.stored.specs.declared.table.Part.{Part}
+use Rattle.stored.specs.inside.PartWords.{kind_read, part_at, stretch_from, stretch_of, entry_at}
+use Rattle.stored.specs.inside.Filling.{Between, Added}
 use Rattle.stored.specs.inside.Adding.{JoinRoom, JoinAdded}
 use Rattle.stored.proofs.EntryLaws.{entry_added}
-use Rattle.stored.proofs.PartLists.{own_merge, own_exchanged, own_low, own_filled, kind_low, cut_short}
+use Rattle.stored.proofs.PartLists.{own_merge, own_exchanged, own_low, own_filled, cut_short}
 
 abbrev pub Joins : ℕ → List ℕ → ℕ → ℕ → ℕ → Type 0
 Joins gap s e to kind = (cut : Tree → Tree → Tree) × (a : Tree) × (b : Tree) × JoinRoom gap s e to kind cut a b
@@ -30,8 +35,19 @@ Joins gap s e to kind = (cut : Tree → Tree → Tree) × (a : Tree) × (b : Tre
 abbrev pub TwoParts : ℕ → ℕ → ℕ → ℕ → Type 0
 TwoParts e rest i j = ((i ≡ e - 1) × (j ≡ e - 2 * rest)) ⊎ ((i ≡ e - 2 * rest) × (j ≡ e - 1))
 
-pub two_parts : (P Q : Type 0) (e rest i j : ℕ) → (P × (i ≡ e - 1) × (j ≡ e - 2 * rest)) ⊎ (Q × (i ≡ e - 2 * rest) × (j ≡ e - 1)) → TwoParts e rest i j
-two_parts P Q e rest i j = ⊎_elim (λ w. inl (w.1, w.2)) (λ w. inr (w.1, w.2))
+-- The parts P and Q are these two, as their words say.
+record Pair (s : List ℕ) (e rest : ℕ) (P Q : Part) : Type 0 where
+  first : ℕ
+  second : ℕ
+  two : TwoParts e rest first second
+  first_is : P ≡ part_at s first
+  second_is : Q ≡ part_at s second
+
+paired : (s : List ℕ) (e rest : ℕ) (O N P Q : Part) → O ≡ part_at s (e - 2 * rest) → N ≡ part_at s (e - 1) → ((P ≡ O) × (Q ≡ N)) ⊎ ((P ≡ N) × (Q ≡ O)) → Pair s e rest P Q
+paired s e rest O N P Q o n (inl p) =
+    record { first = e - 2 * rest; second = e - 1; two = inr (refl, refl); first_is = p.0 ∙ o; second_is = p.1 ∙ n }
+paired s e rest O N P Q o n (inr p) =
+    record { first = e - 1; second = e - 2 * rest; two = inl (refl, refl); first_is = p.0 ∙ n; second_is = p.1 ∙ o }
 
 -- A part that a join takes.
 record Operand (gap : ℕ) (s : List ℕ) (to i : ℕ) (t : Tree) : Type 0 where
@@ -55,21 +71,24 @@ stretch_is f c f' c' x x' j p q r =
     ∙ ap (λ (y : ℕ). record { from = f'; count = y; across = across x j }) q
     ∙ ap (λ (y : ℕ). record { from = f'; count = c'; across = across y j }) r
 
-pub read_stretch : (s : List ℕ) (e j f c x y : ℕ) (b : Bool) → f ≡ get_or s (4 * e + 0) 0 → c ≡ get_or s (4 * e + 1) 0 → x ≡ get_or s (4 * e + 2) 0 → y ≡ x → b ≡ across y j → ◌≡◌ {A = Stretch} (record { from = f; count = c; across = b }) (stretch_of s e j)
-read_stretch s e j f c x y b p q r t u =
-    let place : 4 * e + 0 ≡ 4 * e = omega arith in
-    ap (λ (v : Bool). record { from = f; count = c; across = v }) u
-    ∙ stretch_is f c (get_or s (4 * e) 0) (get_or s (4 * e + 1) 0) y (get_or s (4 * e + 2) 0) j (p ∙ ap (λ (n : ℕ). get_or s n 0) place) q (t ∙ r)
+-- A word that no kind has runs as a gauge's.
+across_read : (n j : ℕ) → across (byte_of (kind_read n)) j ≡ across n j
+unfolding across
+across_read n j = step (eqb n 0x03) (eqb n 0x02) refl
+  where
+    step : (b c : Bool) → eqb n 0x03 ≡ b → cond (eqb j 0x03) (not (eqb (byte_of (cond b Stacked (cond c Beside Gauge))) 0x03)) (eqb (byte_of (cond b Stacked (cond c Beside Gauge))) 0x03) ≡ cond (eqb j 0x03) (not (eqb n 0x03)) (eqb n 0x03)
+    step true c e = rw e
+    step false true e = rw e
+    step false false e = rw e
+
+-- The stretch of a part that was read is that of its words.
+pub read_stretch : (s : List ℕ) (e : ℕ) (join : Kind) (p : Part) (a : Stretch) → p ≡ part_at s e → a ≡ stretch_from p join → a ≡ stretch_of s e (byte_of join)
+read_stretch s e join p a p_is a_is =
+    a_is
+    ∙ ap (λ (v : Part). stretch_from v join) p_is
+    ∙ ap (λ (v : Bool). record { from = get_or s (4 * e) 0; count = get_or s (4 * e + 1) 0; across = v }) (across_read (get_or s (4 * e + 2) 0) (byte_of join))
 
 module _ (gap : ℕ) (s : List ℕ) (e to kind : ℕ) (cut : Tree → Tree → Tree) (a b : Tree) (g : JoinRoom gap s e to kind cut a b) where
-  part_inside : (i : ℕ) (t : Tree) → Operand gap s to i t → (4 * i + 3 < length s) × (get_or s (4 * i + 2) 0 < 256)
-  part_inside i t x =
-      let few = x.entry.inside in
-      let long = g.room.long in
-      let same = x.entry.kind_is in
-      let low = kind_low t in
-      (omega arith, omega arith)
-
   newer : Operand gap s to (e - 1) b
   newer = record { entry = g.newer; between = g.newer_between; good = g.newer_good }
 
@@ -175,25 +194,60 @@ module _ (gap : ℕ) (s : List ℕ) (e to kind : ℕ) (cut : Tree → Tree → T
           (subst (λ (x : List Item). HasList z to x) merge_is made.list) same made.before_kept))
 
 -- The function's calls, and its way out.
-module _ (gap : ℕ) (s : List ℕ) (e to kind rest : ℕ) (r : rest ≡ get_or s (4 * (e - 1) + 3) 0) where
-  total : (cut : Tree → Tree → Tree) (a b : Tree) → JoinRoom gap s e to kind cut a b → (first : ℕ) → first ≡ get_or s (4 * (e - 2 * rest) + 3) 0 → first + rest ≡ gauge_count a + gauge_count b
-  total cut a b g first f =
-      ap₂ ◌+◌ (f ∙ (older gap s e to kind cut a b g rest r).entry.gauges_is) (rest_is gap s e to kind cut a b g rest r)
+module _ (gap : ℕ) (s : List ℕ) (e to : ℕ) (join : Kind) (N : Part) (n : N ≡ part_at s (e - 1)) where
+  abbrev kind : ℕ
+  kind = byte_of join
 
-  pub join_gauges : Joins gap s e to kind → (first : ℕ) → first ≡ get_or s (4 * (e - 2 * rest) + 3) 0 → first + rest ≤ 64
-  join_gauges p first f = let few = p.3.few in let all = total p.0 p.1 p.2 p.3 first f in omega arith
+  abbrev rest : ℕ
+  rest = N.gauges
 
-  module _ (i j : ℕ) (two : TwoParts e rest i j) where
-    abbrev both : (p : Joins gap s e to kind) → Operands gap s to kind (p.0 p.1 p.2) i j
-    both p = operands gap s e to kind p.0 p.1 p.2 p.3 rest r i j two
+  rest_read : rest ≡ get_or s (4 * (e - 1) + 3) 0
+  rest_read = ap (λ (p : Part). p.gauges) n
 
-    pub join_first : Joins gap s e to kind → (4 * i + 3 < length s) × (get_or s (4 * i + 2) 0 < 256)
-    join_first p = part_inside gap s e to kind p.0 p.1 p.2 p.3 i _ (both p).first_is
+  -- The newer part stands in the table, and the older one before all entries of it.
+  pub join_newer : Joins gap s e to kind → (1 ≤ e) × (4 * (e - 1) + 3 < length s)
+  join_newer p =
+      let g = p.3 in
+      let long = g.room.long in
+      let few = g.newer.inside in
+      (g.newer_before, omega arith)
 
-    pub join_second : Joins gap s e to kind → (4 * j + 3 < length s) × (get_or s (4 * j + 2) 0 < 256)
-    join_second p = part_inside gap s e to kind p.0 p.1 p.2 p.3 j _ (both p).second_is
+  pub join_older : Joins gap s e to kind → (2 * rest ≤ e) × (4 * (e - 2 * rest) + 3 < length s)
+  join_older p =
+      let g = p.3 in
+      let long = g.room.long in
+      let few = g.room.part in
+      let gauges = rest_is gap s e to kind p.0 p.1 p.2 g rest rest_read in
+      let before = g.older_before in
+      (omega arith, omega arith)
 
-    module _ (A B : Stretch) (A-is : A ≡ stretch_of s i kind) (B-is : B ≡ stretch_of s j kind) where
+  module _ (O : Part) (o : O ≡ part_at s (e - 2 * rest)) where
+    total : (cut : Tree → Tree → Tree) (a b : Tree) → JoinRoom gap s e to kind cut a b → O.gauges + rest ≡ gauge_count a + gauge_count b
+    total cut a b g =
+        ap₂ ◌+◌ (ap (λ (p : Part). p.gauges) o ∙ (older gap s e to kind cut a b g rest rest_read).entry.gauges_is) (rest_is gap s e to kind cut a b g rest rest_read)
+
+    pub join_gauges : Joins gap s e to kind → O.gauges + rest ≤ 64
+    join_gauges p = let few = p.3.few in let all = total p.0 p.1 p.2 p.3 in omega arith
+
+    module _ (P Q : Part) (order : ((P ≡ O) × (Q ≡ N)) ⊎ ((P ≡ N) × (Q ≡ O))) (A B : Stretch) (A-from : A ≡ stretch_from P join) (B-from : B ≡ stretch_from Q join) where
+      pair : Pair s e rest P Q
+      pair = paired s e rest O N P Q o n order
+
+      abbrev i : ℕ
+      i = pair.first
+
+      abbrev j : ℕ
+      j = pair.second
+
+      abbrev both : (p : Joins gap s e to kind) → Operands gap s to kind (p.0 p.1 p.2) i j
+      both p = operands gap s e to kind p.0 p.1 p.2 p.3 rest rest_read i j pair.two
+
+      A-is : A ≡ stretch_of s i kind
+      A-is = read_stretch s i join P A pair.first_is A-from
+
+      B-is : B ≡ stretch_of s j kind
+      B-is = read_stretch s j join Q B pair.second_is B-from
+
       pub join_merges : Joins gap s e to kind → (l : List Item) × (k : List Item) × Joinable gap s A B to l k
       join_merges p = (_, _, joinable gap s e to kind p.0 p.1 p.2 p.3 i j (both p) A B A-is B-is)
 
@@ -204,7 +258,7 @@ module _ (gap : ℕ) (s : List ℕ) (e to kind rest : ℕ) (r : rest ≡ get_or 
         as_many : (p : Joins gap s e to kind) → count ≡ length (own_shapes gap (p.0 p.1 p.2))
         as_many p = join_count gap s e to kind p.0 p.1 p.2 p.3 i j (both p) A B A-is B-is z count (join_made p)
 
-        pub join_stores : Joins gap s e to kind → (4 * e + 4 ≤ length z) × (to < 65_536) × (count < 65_536) × (e < 127)
+        pub join_stores : Joins gap s e to kind → (4 * e + 4 ≤ length z) × (to < 65_536) × (count < 65_536) × (e < 127) × (O.gauges + rest < 2 ^ 32)
         join_stores p =
             let g = p.3 in
             let same = (join_made p).length_kept in
@@ -213,9 +267,10 @@ module _ (gap : ℕ) (s : List ℕ) (e to kind rest : ℕ) (r : rest ≡ get_or 
             let items = g.room.items in
             let n = as_many p in
             let short = cut_short gap kind p.0 g.is_cut p.1 p.2 g.older_good g.newer_good g.few in
-            (omega arith, omega arith, omega arith, few)
+            let gauges = join_gauges p in
+            (omega arith, omega arith, omega arith, few, omega arith)
 
-        pub join_done : (first : ℕ) → first ≡ get_or s (4 * (e - 2 * rest) + 3) 0 → (v : List ℕ) → v ≡ entry_at z e to count kind (first + rest) → (cut : Tree → Tree → Tree) (a b : Tree) → JoinRoom gap s e to kind cut a b → JoinAdded gap s v e to kind count cut a b
-        join_done first f v stored cut a b g =
+        pub join_done : (v : List ℕ) → v ≡ entry_at z e to count kind (O.gauges + rest) → (cut : Tree → Tree → Tree) (a b : Tree) → JoinRoom gap s e to kind cut a b → JoinAdded gap s v e to kind count cut a b
+        join_done v stored cut a b g =
             let p : Joins gap s e to kind = (cut, a, b, g) in
-            (join_added gap s e to kind cut a b g i j (both p) A B A-is B-is z count (join_made p) (first + rest) (total cut a b g first f) v stored, as_many p)
+            (join_added gap s e to kind cut a b g i j (both p) A B A-is B-is z count (join_made p) (O.gauges + rest) (total cut a b g) v stored, as_many p)

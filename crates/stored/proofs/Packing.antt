@@ -2,7 +2,7 @@
 -- The last digit of what is left of the word names the size before those that stand, and each turn writes it in front of them.
 use mathlib.Core.Path.{◌≡◌, refl, sym, ap, subst, ◌∙◌}
 use mathlib.Core.List.{List, [], ◌∷◌}
-use Prim.Native.Nat.{ℕ, zero, suc, ◌+◌, ◌*◌, ◌-◌, ◌/◌, ◌%◌, ◌≤◌, ◌<◌}
+use Prim.Native.Nat.{ℕ, zero, suc, ◌+◌, ◌*◌, ◌-◌, ◌/◌, ◌%◌, ◌^◌, ◌≤◌, ◌<◌}
 use native.Mathlib.Omega.{arith}
 use lib.ListN.{length, get_or, set, drop, length-set, drop_of_length-le}
 use lib.Seq.{get_or-set_same, get_or-set_other}
@@ -18,7 +18,7 @@ use Rattle.useful.proofs.Places.{places_length, places_few}
 use Rattle.useful.proofs.LastDigit.{Digit, digit, none_left, size_read}
 use Rattle.packed.specs.inside.Packed.{pack, HasList}
 use Rattle.packed.proofs.StoredLists.{Low}
-use Rattle.stored.specs.inside.Filling.{entry_at}
+use Rattle.stored.specs.inside.PartWords.{entry_at}
 use Rattle.stored.specs.inside.Adding.{Room, PackedBefore, GaugeAdded}
 use Rattle.stored.proofs.EntryLaws.{entry_other, entry_added}
 
@@ -200,14 +200,14 @@ module _ (s₀ : List ℕ) (e to n : ℕ) (bytes : List ℕ) (word : ℕ) (room 
         let to_end = packed.to_end in
         omega arith
 
-    pub gauge_fits : (4 * e + 4 ≤ length s) × (from < 65_536) × (to + n - from < 65_536) × (e < 127)
+    pub gauge_fits : (4 * e + 4 ≤ length s) × (from < 65_536) × (to + n - from < 65_536) × (e < 127) × (1 < 2 ^ 32)
     gauge_fits =
         let same = gauge_length in
         let upward = gauge_upward in
         let items = room.items in
         let long = room.long in
         let few = room.part in
-        (omega arith, omega arith, omega arith, few)
+        (omega arith, omega arith, omega arith, few, omega arith)
 
     -- It is a part once its words stand in the table, where the word behind it is the one that names its sizes.
     pub gauge_added : (z : List ℕ) → z ≡ entry_at s e from (to + n - from) 1 1 → word ≡ order_word (sizes_in n bytes) → GaugeAdded s₀ z e to (to + n) (sizes_in n bytes)

@@ -1,3 +1,4 @@
 pub mod Store
+pub mod PartWords
 pub mod Filling
 pub mod Adding

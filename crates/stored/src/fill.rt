@@ -1,35 +1,27 @@
 // The shape lists of every part of a taken file.
-ghost use Rattle.std.specs.Prelude.{◌≡◌, ℕ, ◌+◌, ◌*◌, ◌<◌, ◌≤◌, length, get_or};
+ghost use Rattle.std.specs.Prelude.{◌≡◌, ◌⊎◌, ℕ, ◌+◌, ◌*◌, ◌<◌, ◌≤◌, length};
 ghost use Rattle.checks.specs.Answer.{taken};
 ghost use Rattle.slicing.specs.Tree.{Tree};
 ghost use Rattle.slicing.specs.Useful.{gauge_shapes};
 ghost use Rattle.facefile.specs.Format.{face_of};
 ghost use Rattle.sizes.specs.inside.Sizes.{sizes_in};
+ghost use Rattle.entries.specs.inside.Kinds.{byte_of};
 ghost use Rattle.useful.specs.inside.Order.{GaugeBytes, order_word};
-ghost use Rattle.stored.specs.inside.Filling.{entry_at, stretch_of, Fillable, Filled};
+ghost use Rattle.stored.specs.inside.PartWords.{stretch_of};
+ghost use Rattle.stored.specs.inside.Filling.{Fillable, Filled};
 ghost use Rattle.stored.specs.inside.Adding.{Room, PackedBefore, GaugeAdded, JoinRoom, JoinAdded};
 
-use crate::table::{COUNT, FROM, GAUGES, KIND, part_word};
+use crate::table::{Part, kind_of};
+use entries::Kind;
 use facefile::walk::{Entry, FIRST_ENTRY, asks_order, entry_at};
 use packed::item::packed;
-use packed::merge::{Stretch, merge_lists};
+use packed::merge::merge_lists;
+use packed::stretch::Stretch;
 use sizes::size_in;
 use useful::order::{in_order, order};
 
 // The words of the table, four a part. The lists follow it.
 const TABLE: usize = 508;
-
-// Writes the four words of a part in the table.
-fn store_entry(scratch: &mut [u32], part: usize, from: usize, count: usize, kind: u32, gauges: u32)
-    requires { (4 * part + 4 ≤ length scratch.old) × (from < 65536) × (count < 65536) × (part < 127) }
-    ensures { scratch.new ≡ entry_at scratch.old part from count kind gauges }
-{
-    let at = 4 * part;
-    scratch[at] = from as u32;
-    scratch[at + 1] = count as u32;
-    scratch[at + 2] = kind;
-    scratch[at + 3] = gauges;
-}
 
 // Packs the useful ones of a gauge's sizes, four bytes a size, so that they end before the place `end`: the digits of
 // `named` name them from the last to the first. Answers where the first stands.
@@ -57,50 +49,52 @@ fn store_gauge(scratch: &mut [u32], part: usize, to: usize, bytes: &[u8], count:
     let end = to + count;
     scratch[end] = named;
     let from = store_sizes(scratch, end, bytes, named);
-    store_entry(scratch, part, from, end - from, entries::GAUGE as u32, 1);
-}
-
-// A kind as a byte.
-fn byte_of(x: usize) -> u8
-    requires { x < 256 }
-    ensures { result ≡ x }
-{
-    x as u8
+    let gauge = Part {
+        from,
+        count: end - from,
+        kind: Kind::Gauge,
+        gauges: 1,
+    };
+    gauge.store(scratch, part);
 }
 
 // The list of a part, to be read the way of a join.
-pub fn stretch(scratch: &[u32], part: usize, join: u8) -> Stretch
-    requires { (4 * part + 3 < length scratch.now) × (get_or scratch.now (4 * part + 2) 0 < 256) }
-    ensures { result ≡ stretch_of scratch.now part join }
+pub fn stretch(scratch: &[u32], part: usize, join: Kind) -> Stretch
+    requires { 4 * part + 3 < length scratch.now }
+    ensures { result ≡ stretch_of scratch.now part (byte_of join) }
 {
-    Stretch {
-        from: part_word(scratch, part, FROM),
-        count: part_word(scratch, part, COUNT),
-        across: entries::runs_across(byte_of(part_word(scratch, part, KIND)), join),
+    Part::read(scratch, part).stretch(join)
+}
+
+// The two parts, the one with more items first.
+fn longer_first(older: Part, newer: Part) -> (Part, Part)
+    ensures { ((result.0 ≡ older) × (result.1 ≡ newer)) ⊎ ((result.0 ≡ newer) × (result.1 ≡ older)) }
+{
+    if older.count < newer.count {
+        (newer, older)
+    } else {
+        (older, newer)
     }
 }
 
 // Adds a join of the part before it and the older part before that, with a rib between them: the merge of their lists
 // from the place `to` on. Answers how many items it has. The merge of two lists is that of the two exchanged, so the
 // longer one is given first, and the rib is added to the items of the shorter.
-fn store_join(scratch: &mut [u32], part: usize, to: usize, kind: u8, rib: u32) -> usize
-    requires { (cut : Tree → Tree → Tree) × (a : Tree) × (b : Tree) × JoinRoom rib scratch.old part to kind cut a b }
-    ensures { (cut : Tree → Tree → Tree) (a b : Tree) → JoinRoom rib scratch.old part to kind cut a b → JoinAdded rib scratch.old scratch.new part to kind result cut a b }
+fn store_join(scratch: &mut [u32], part: usize, to: usize, kind: Kind, rib: u32) -> usize
+    requires { (cut : Tree → Tree → Tree) × (a : Tree) × (b : Tree) × JoinRoom rib scratch.old part to (byte_of kind) cut a b }
+    ensures { (cut : Tree → Tree → Tree) (a b : Tree) → JoinRoom rib scratch.old part to (byte_of kind) cut a b → JoinAdded rib scratch.old scratch.new part to (byte_of kind) result cut a b }
 {
-    let newer = part - 1;
-    let rest = part_word(scratch, newer, GAUGES);
-    let older = part - 2 * rest;
-    let first = part_word(scratch, older, GAUGES);
-    let mut long = older;
-    let mut short = newer;
-    if part_word(scratch, older, COUNT) < part_word(scratch, newer, COUNT) {
-        long = newer;
-        short = older;
-    }
-    let a = stretch(scratch, long, kind);
-    let b = stretch(scratch, short, kind);
-    let count = merge_lists(scratch, a, b, rib, to);
-    store_entry(scratch, part, to, count, kind as u32, (first + rest) as u32);
+    let newer = Part::read(scratch, part - 1);
+    let older = Part::read(scratch, part - 2 * newer.gauges);
+    let (long, short) = longer_first(older, newer);
+    let count = merge_lists(scratch, long.stretch(kind), short.stretch(kind), rib, to);
+    let join = Part {
+        from: to,
+        count,
+        kind,
+        gauges: older.gauges + newer.gauges,
+    };
+    join.store(scratch, part);
     count
 }
 
@@ -120,17 +114,18 @@ pub fn store_lists(file: &[u8], rib: u32, scratch: &mut [u32]) -> usize
                 let from = g.from;
                 let end = g.to;
                 let sizes = &file[from..end];
-                let mut named = in_order(g.count);
-                if !known {
-                    named = order(sizes, g.count);
-                }
+                let named = if known {
+                    in_order(g.count)
+                } else {
+                    order(sizes, g.count)
+                };
                 store_gauge(scratch, part, to, sizes, g.count, named);
                 to += g.count + 1;
                 at = g.next;
                 part += 1;
             }
             Entry::Join(kind, next) => {
-                to += store_join(scratch, part, to, kind, rib);
+                to += store_join(scratch, part, to, kind_of(kind as u32), rib);
                 at = next;
                 part += 1;
             }

@@ -1,18 +1,11 @@
 -- How the shape lists of every part come into the scratch, part by part in the order of the file's entries. No public contract cites it.
-use Rattle.std.specs.Prelude.{◌≡◌, List, [], ◌∷◌, ℕ, ◌+◌, ◌*◌, ◌-◌, ◌≤◌, ◌<◌, length, get_or, set}
+use Rattle.std.specs.Prelude.{◌≡◌, List, [], ◌∷◌, ℕ, ◌+◌, ◌*◌, ◌-◌, ◌≤◌, ◌<◌, length, get_or}
 use Rattle.checks.specs.Limits.{most_rib, buffer_words}
 use Rattle.checks.specs.Answer.{taken}
 use Rattle.slicing.specs.Item.{Item}
 use Rattle.slicing.specs.Tree.{Tree, gauge, beside, stacked, gauge_count}
 use Rattle.facefile.specs.Format.{face_of}
-use Rattle.entries.specs.inside.Kinds.{across}
-use Rattle.packed.specs.declared.stretch.Stretch.{Stretch}
 use Rattle.stored.specs.inside.Store.{own_shapes, Entry, Stored}
-
--- The scratch with the four words of part e.
-unfoldable pub entry_at : List ℕ → ℕ → ℕ → ℕ → ℕ → ℕ → List ℕ
-entry_at s e from count kind gauges =
-    set (set (set (set s (4 * e) from) (4 * e + 1) count) (4 * e + 2) kind) (4 * e + 3) gauges
 
 -- The lists of the part e and of all parts of it stand after the table, before the place `to`, and so do the words behind the lists of gauges.
 abbrev pub Between : ℕ → List ℕ → ℕ → ℕ → Tree → Type 0
@@ -30,11 +23,6 @@ pub record Added (s z : List ℕ) (e to kind gauges : ℕ) (l : List Item) : Typ
   pub from_is : get_or z (4 * e) 0 ≡ to
   pub table_kept : (i : ℕ) → i < 4 * e → get_or z i 0 ≡ get_or s i 0
   pub lists_kept : (i : ℕ) → 508 ≤ i → i < to → get_or z i 0 ≡ get_or s i 0
-
--- Part e of a table, as a stretch that is read for a join.
-abbrev pub stretch_of : List ℕ → ℕ → ℕ → Stretch
-stretch_of s e join =
-    record { from = get_or s (4 * e) 0; count = get_or s (4 * e + 1) 0; across = across (get_or s (4 * e + 2) 0) join }
 
 -- The parts of the stack, the newest first, are the parts of the table before number e.
 abbrev pub Rows : ℕ → List ℕ → ℕ → List Tree → ℕ → Type 0

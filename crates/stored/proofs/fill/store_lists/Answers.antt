@@ -5,10 +5,8 @@ use native.Mathlib.Omega.{arith}
 use borrow.Author.Rules.{rules}
 use Rattle.facefile.proofs.WalkSteps.{gauge_upward, gauge_inside, gauge_less, join_less}
 use Rattle.stored.proofs.FillLoop.{filling_head, filling_start, gauge_part, gauge_bytes, gauge_in_order, gauge_room, gauge_fits, filling_gauge, join_part, join_ready, join_fits, filling_join, filled_some, filled}
-use mathlib.Core.Bool.{not}
-use mathlib.Core.Path.{ap}
 use Rattle.stored.proofs.fill.store_lists.Goals as goal
-use Rattle.stored.proofs.fill.store_lists.Goals.{then-not-known, else-not-known}
+use Rattle.stored.proofs.fill.store_lists.Goals.{then-known, else-known}
 
 pub asks_order-known-requires : goal.asks_order-known-requires
 asks_order-known-requires c = search (rules, filling_head)
@@ -35,9 +33,9 @@ store_gauge-requires c =
     let asked = c.asks_order-known.ensures in (
       gauge_room _ _ _ _ _ _ _ filling _ found _ is-gauge,
       gauge_bytes _ _ _ _ _ _ _ filling _ found _ is-gauge,
-      elim c.if-not-known.branch [
-        | then-not-known w ↦ w.named-is ∙ w.order-named.ensures
-        | else-not-known w ↦ gauge_in_order _ _ _ _ _ _ _ filling _ found _ is-gauge _ asked (ap not w.if-not-known.false) _ (w.named-is ∙ c.in_order-named.ensures)
+      elim c.if-known.branch [
+        | then-known w ↦ gauge_in_order _ _ _ _ _ _ _ filling _ found _ is-gauge _ asked w.if-known.true _ (w.named-is ∙ w.in_order-named.ensures)
+        | else-known w ↦ w.named-is ∙ w.order-named.ensures
       ],
     )
 
@@ -57,11 +55,11 @@ pub loop-at-preserved-in-Gauge : goal.loop-at-preserved-in-Gauge
 loop-at-preserved-in-Gauge c = search (rules, filling_gauge)
 
 pub store_join-to-requires : goal.store_join-to-requires
-store_join-to-requires c = join_ready _ _ _ _ _ _ _ c.loop-at.invariant _ c.entry_at.ensures _ _ c.in-Join.is
+store_join-to-requires c = join_ready _ _ _ _ _ _ _ c.loop-at.invariant _ c.entry_at.ensures _ _ c.in-Join.is _ c.kind_of.ensures
 
 pub overflow_add-to-in-Join : goal.overflow_add-to-in-Join
 overflow_add-to-in-Join c =
-    let few = join_fits _ _ _ _ _ _ _ c.loop-at.invariant _ c.entry_at.ensures _ _ c.in-Join.is _ _ c.store_join-to.ensures in
+    let few = join_fits _ _ _ _ _ _ _ c.loop-at.invariant _ c.entry_at.ensures _ _ c.in-Join.is _ c.kind_of.ensures _ _ c.store_join-to.ensures in
     record { fits = omega arith }
 
 pub overflow_add-part-in-Join : goal.overflow_add-part-in-Join
@@ -73,7 +71,8 @@ pub loop-at-smaller : goal.loop-at-smaller
 loop-at-smaller c = search (rules, join_less)
 
 pub loop-at-preserved : goal.loop-at-preserved
-loop-at-preserved c = search (rules, filling_join)
+loop-at-preserved c =
+    filling_join _ _ _ _ _ _ _ c.loop-at.invariant _ c.entry_at.ensures _ _ c.in-Join.is _ c.kind_of.ensures _ _ c.store_join-to.ensures
 
 pub overflow_sub-result : goal.overflow_sub-result
 overflow_sub-result c = search (rules, filled_some)
