@@ -1,6 +1,7 @@
 -- A stored part that can be laid out, and the layout of a gauge: its five words.
 -- The word read is that of an item of the gauge's list, which is the printed size of the number read, and five stores leave the words after them.
 use mathlib.Core.Path.{◌≡◌, refl, sym, ap, ap₂, ◌∙◌}
+use mathlib.Core.Bool.{Bool, true, false, true≢false}
 use mathlib.Core.List.{List, [], ◌∷◌}
 use Prim.Native.Nat.{ℕ, ◌+◌, ◌*◌, ◌/◌, ◌%◌, ◌≤◌, ◌<◌}
 use native.Mathlib.Omega.{arith}
@@ -16,11 +17,27 @@ use Rattle.slicing.proofs.Indexes.{index_found}
 use Rattle.slicing.proofs.GaugeUseful.{gauge_useful}
 use Rattle.packed.specs.inside.Packed.{pack}
 use Rattle.packed.proofs.StoredLists.{m_is, p_is}
+use denote.Enum.Bare.{sameb}
+use Rattle.entries.specs.contracts.kinds.Kind.{the_type}
+use Rattle.entries.specs.declared.kinds.Kind.{Kind}
+use Rattle.entries.specs.declared.kinds.Kind.TheVariants.{Gauge, Beside, Stacked}
 use Rattle.stored.specs.inside.Store.{Stored}
+use Rattle.stored.specs.inside.PartWords.{kind_read}
 use Rattle.laying.specs.inside.Laying.{shape_at, GaugePlace, Layable, laid}
 use Rattle.laying.proofs.StretchLaws.{table_inside}
 use Rattle.laying.proofs.SizeNumbers.{AtPlace, NumberIs}
 use Rattle.laying.proofs.ShapeReading.{Place, shape_low}
+
+-- The code's test for a gauge.
+pub is_gauge : (k : Kind) (b : Bool) → b ≡ sameb the_type k Gauge → b ≡ true → k ≡ Gauge
+is_gauge Gauge b e f = refl
+is_gauge Beside b e f = absurd (true≢false (sym f ∙ e))
+is_gauge Stacked b e f = absurd (true≢false (sym f ∙ e))
+
+pub not_gauge : (k : Kind) (b : Bool) → b ≡ sameb the_type k Gauge → b ≡ false → k ≡ Gauge → ⊥
+not_gauge Gauge b e f g = true≢false (sym e ∙ f)
+not_gauge Beside b e f g = cc
+not_gauge Stacked b e f g = cc
 
 -- The word of the item at the place of the part's list.
 abbrev pub Word : List ℕ → ℕ → ℕ → ℕ → Type 0
@@ -58,11 +75,11 @@ module _ {gap : ℕ} {s : List ℕ} {part k x y : ℕ} {out : List ℕ} where
   gauge_stored sizes h = record { stored = h.stored; few = h.good.few; in_list = h.in_list }
 
   -- At a gauge, by the kind that is read of the table.
-  module _ {kind : ℕ} (kind_is : kind ≡ get_or s (4 * part + 2) 0) (one : kind ≡ 1) where
+  module _ {kind : Kind} (kind_is : kind ≡ kind_read (get_or s (4 * part + 2) 0)) (one : kind ≡ Gauge) where
     gauge_at : (t : Tree) → Layable gap s part t k x y out → (5 ≤ length out) × AtPlace s part k
     gauge_at (gauge sizes) h = let room = h.room in (omega arith, (gap, sizes, gauge_stored sizes h))
-    gauge_at (beside a b) h = let same = h.stored.0.kind_is in absurd (omega arith)
-    gauge_at (stacked a b) h = let same = h.stored.0.kind_is in absurd (omega arith)
+    gauge_at (beside a b) h = let read : kind ≡ Beside = kind_is ∙ ap kind_read h.stored.0.kind_is in cc
+    gauge_at (stacked a b) h = let read : kind ≡ Stacked = kind_is ∙ ap kind_read h.stored.0.kind_is in cc
 
     pub gauge_room : Ready gap s part k x y out → 5 ≤ length out
     gauge_room pre = (gauge_at pre.0 pre.1).0
@@ -85,8 +102,8 @@ module _ {gap : ℕ} {s : List ℕ} {part k x y : ℕ} {out : List ℕ} where
         ∙ ap (λ (i : ℕ). i ∷ x ∷ y ∷ (z % 65_536) ∷ (z / 65_536) ∷ drop 5 out) numbered
         ∙ ap₂ (λ (w v : ℕ). (index_of item sizes + 1) ∷ x ∷ y ∷ w ∷ v ∷ drop 5 out) p_same m_same
         ∙ ap (λ (i : Item). (index_of item sizes + 1) ∷ x ∷ y ∷ width i ∷ height i ∷ drop 5 out) (sym found)
-    gauge_laid word number written (beside a b) h = let same = h.stored.0.kind_is in absurd (omega arith)
-    gauge_laid word number written (stacked a b) h = let same = h.stored.0.kind_is in absurd (omega arith)
+    gauge_laid word number written (beside a b) h = let read : kind ≡ Beside = kind_is ∙ ap kind_read h.stored.0.kind_is in cc
+    gauge_laid word number written (stacked a b) h = let read : kind ≡ Stacked = kind_is ∙ ap kind_read h.stored.0.kind_is in cc
 
 -- A whole face is laid out from 0, 0: its items are below 65,536.
 pub root_layable : (gap : ℕ) (s : List ℕ) (part : ℕ) (t : Tree) (k : ℕ) (out : List ℕ) → Stored gap s part t → Good t → k < length (shapes gap t) → 5 * gauge_count t ≤ length out → Layable gap s part t k 0 0 out

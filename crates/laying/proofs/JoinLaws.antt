@@ -6,8 +6,6 @@ use mathlib.Core.List.{List, ◌++◌}
 use Prim.Native.Nat.{ℕ, ◌+◌, ◌*◌, ◌-◌, ◌^◌, ◌≤◌, ◌<◌, max}
 use native.Mathlib.Omega.{arith}
 use lib.ListN.{get_or}
-use lib.Dec.{eqb}
-use borrow.Author.Tests.{eq-eqb, ne_eqb}
 use Rattle.slicing.specs.Item.{Item, height, width}
 use Rattle.slicing.specs.Tree.{Tree, gauge, beside, stacked, gauge_count}
 use Rattle.slicing.specs.Good.{Good}
@@ -20,8 +18,11 @@ use Rattle.slicing.proofs.TurnLaws.{turn_ordered, turn_out}
 use Rattle.slicing.proofs.Placing.{Sides, sides}
 use Rattle.packed.specs.inside.Packed.{facing}
 use Rattle.packed.proofs.StoredLists.{place_in}
+use Rattle.entries.specs.declared.kinds.Kind.{Kind}
+use Rattle.entries.specs.declared.kinds.Kind.TheVariants.{Gauge}
 use Rattle.stored.specs.inside.Store.{Stored}
-use Rattle.laying.specs.inside.Taking.{facing_item}
+use Rattle.stored.specs.inside.PartWords.{kind_read}
+use Rattle.laying.specs.inside.Taking.{facing_item, goes_up}
 use Rattle.laying.specs.inside.Laying.{shape_at, moved_by, Layable}
 
 -- What a part takes for the item z of the whole.
@@ -93,14 +94,12 @@ module _ {gap : ℕ} {s : List ℕ} {part k x y : ℕ} {out : List ℕ} where
             ap (λ (n : ℕ). words_of gap a (swap (side gap true z a)) x y ++ words_of gap b (swap (side gap true z b)) x n) past;
       }
 
-  pub view : {kind : ℕ} → kind ≡ get_or s (4 * part + 2) 0 → (kind ≡ 1 → ⊥) → (t : Tree) → Layable gap s part t k x y out → View gap s part (eqb kind 3) t k x y
-  view e other (gauge z) h = absurd (other (e ∙ h.stored.0.kind_is))
-  view {kind} e other (beside a b) h =
-      let same = h.stored.0.kind_is in
-      subst (λ (u : Bool). View gap s part u (beside a b) k x y) (sym (ne_eqb kind 3 (λ f. absurd (omega arith)))) (view_beside a b h)
-  view {kind} e other (stacked a b) h =
-      let same = h.stored.0.kind_is in
-      subst (λ (u : Bool). View gap s part u (stacked a b) k x y) (sym (eq-eqb kind 3 (omega arith))) (view_stacked a b h)
+  pub view : {kind : Kind} → kind ≡ kind_read (get_or s (4 * part + 2) 0) → (kind ≡ Gauge → ⊥) → (t : Tree) → Layable gap s part t k x y out → View gap s part (goes_up kind) t k x y
+  view e other (gauge z) h = absurd (other (e ∙ ap kind_read h.stored.0.kind_is))
+  view e other (beside a b) h =
+      subst (λ (u : Bool). View gap s part u (beside a b) k x y) (sym (ap goes_up (e ∙ ap kind_read h.stored.0.kind_is))) (view_beside a b h)
+  view e other (stacked a b) h =
+      subst (λ (u : Bool). View gap s part u (stacked a b) k x y) (sym (ap goes_up (e ∙ ap kind_read h.stored.0.kind_is))) (view_stacked a b h)
 
 -- The edges of both parts are within those of the whole; the newer part is past the older's extent and the gap.
 pub record Edges (upward : Bool) (a b : Item) (past x y : ℕ) : Type 0 where

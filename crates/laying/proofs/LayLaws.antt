@@ -16,14 +16,16 @@ use Rattle.slicing.proofs.Depths.{depth_few}
 use Rattle.slicing.proofs.Placing.{words_length}
 use Rattle.packed.specs.inside.Packed.{pack, facing}
 use Rattle.packed.proofs.StoredLists.{Low, m_is, p_is}
+use Rattle.entries.specs.declared.kinds.Kind.{Kind}
+use Rattle.entries.specs.declared.kinds.Kind.TheVariants.{Gauge}
 use Rattle.stored.specs.inside.Store.{Stored}
+use Rattle.stored.specs.inside.PartWords.{kind_read}
 use Rattle.stored.proofs.PartLists.{entry_of}
-use Rattle.laying.specs.inside.Taking.{facing_item, Takable, Takes}
+use Rattle.laying.specs.inside.Taking.{facing_item, goes_up, Takable, Takes}
 use Rattle.laying.specs.inside.Laying.{shape_at, moved_by, Layable, laid}
 use Rattle.laying.proofs.StretchLaws.{table_inside}
 use Rattle.laying.proofs.ShapeReading.{shape_low}
 use Rattle.laying.proofs.TakeLaws.{Side}
-use lib.Dec.{eqb}
 use Rattle.laying.proofs.JoinLaws.{side, words_of, view, View, Edges, edges}
 use Rattle.laying.proofs.GaugeLaws.{Word, Ready, Lays}
 
@@ -57,7 +59,7 @@ pub record Join (gap : ℕ) (s : List ℕ) (part k x y : ℕ) (out : List ℕ) (
   pub limit_is : limit ≡ cond upward (z % 65_536) (z / 65_536)
 
 -- It comes from what is read of the part, of which none says that it is a gauge.
-pub seen_join : {gap : ℕ} {s : List ℕ} {part k x y : ℕ} {out : List ℕ} {kind z limit : ℕ} → Ready gap s part k x y out → kind ≡ get_or s (4 * part + 2) 0 → (kind ≡ 1 → ⊥) → Word s part k z → limit ≡ cond (eqb kind 3) (z % 65_536) (z / 65_536) → Join gap s part k x y out (eqb kind 3) z limit
+pub seen_join : {gap : ℕ} {s : List ℕ} {part k x y : ℕ} {out : List ℕ} {kind : Kind} {z limit : ℕ} → Ready gap s part k x y out → kind ≡ kind_read (get_or s (4 * part + 2) 0) → (kind ≡ Gauge → ⊥) → Word s part k z → limit ≡ cond (goes_up kind) (z % 65_536) (z / 65_536) → Join gap s part k x y out (goes_up kind) z limit
 seen_join ready e other word limit = record { ready = ready; seen = view e other; word = word; limit_is = limit }
 
 -- What the whole's item z makes the two parts take is at the places ka and kb of their lists.

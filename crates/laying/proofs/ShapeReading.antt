@@ -11,20 +11,20 @@ use Rattle.slicing.specs.Tree.{Tree}
 use Rattle.slicing.specs.Shapes.{shapes}
 use Rattle.packed.specs.inside.Packed.{pack, HasList}
 use Rattle.packed.specs.declared.stretch.Stretch.{Stretch}
-use Rattle.packed.proofs.Reading.{ItemWord}
+use Rattle.packed.proofs.Merging.{Reads}
 use Rattle.packed.proofs.StoredLists.{Low, facing_low}
 use Rattle.stored.specs.inside.Store.{own_shapes, Stored}
 use Rattle.stored.specs.inside.PartWords.{stretch_of}
 use Rattle.stored.proofs.PartLists.{own_length}
 use Rattle.laying.specs.inside.Laying.{shape_at}
-use Rattle.laying.proofs.StretchLaws.{stretch_ready, stretch_list, stretch_count, stretch_facing}
+use Rattle.laying.proofs.StretchLaws.{table_inside, stretch_list, stretch_count, stretch_facing}
 
 -- A stored part, and a place of its shape list.
 abbrev pub Place : List ℕ → ℕ → ℕ → Type 0
 Place s part k = (gap : ℕ) × (t : Tree) × Stored gap s part t × (k < length (shapes gap t))
 
-pub place_ready : (s : List ℕ) (part k : ℕ) → Place s part k → (4 * part + 3 < length s) × (get_or s (4 * part + 2) 0 < 256)
-place_ready s part k pre = stretch_ready pre.0 s part pre.1 pre.2
+pub place_ready : (s : List ℕ) (part k : ℕ) → Place s part k → 4 * part + 3 < length s
+place_ready s part k pre = table_inside pre.0 s part pre.1 pre.2
 
 module _ (s : List ℕ) (part k : ℕ) (a : Stretch) (a_is : a ≡ stretch_of s part 0x02) where
   pub can_read_shape : Place s part k → ((l : List Item) × HasList s a.from l × (a.count ≡ length l) × (k < a.count))
@@ -35,7 +35,7 @@ module _ (s : List ℕ) (part k : ℕ) (a : Stretch) (a_is : a ≡ stretch_of s 
       let many = stretch_count gap s part false a a_is t pre.2 in
       (own_shapes gap t, stretch_list gap s part false a a_is t pre.2, many, omega (arith, own_length gap t))
 
-  pub shape_read : (z : ℕ) → ItemWord s a.from a.count a.across k z → (gap : ℕ) (t : Tree) → Stored gap s part t → k < length (shapes gap t) → z ≡ pack (shape_at gap t k)
+  pub shape_read : (z : ℕ) → Reads s a k z → (gap : ℕ) (t : Tree) → Stored gap s part t → k < length (shapes gap t) → z ≡ pack (shape_at gap t k)
   shape_read z read gap t h inside =
       read (own_shapes gap t) (stretch_list gap s part false a a_is t h) (stretch_count gap s part false a a_is t h)
       ∙ ap (λ (l : List Item). pack (get_or l k (size 0 0))) (stretch_facing gap s part false a a_is t h)

@@ -37,17 +37,15 @@ module _ {s : List ℕ} {part k : ℕ} where
   number_table pre = table_inside pre.0 s part (gauge pre.1) pre.2.stored
 
   -- With the words that are read of the table.
-  module _ {from count : ℕ} (from_is : from ≡ get_or s (4 * part + 0) 0) (count_is : count ≡ get_or s (4 * part + 1) 0) where
+  module _ {from count : ℕ} (from_is : from ≡ get_or s (4 * part) 0) (count_is : count ≡ get_or s (4 * part + 1) 0) where
     module _ (gap : ℕ) (sizes : List Item) (g : GaugePlace gap s part sizes k) where
       as_many : count ≡ length (gauge_shapes sizes)
       as_many = count_is ∙ g.stored.0.count_is ∙ ap length (own_gauge gap sizes)
 
       named : get_or s (from + count) 0 ≡ order_word sizes
       named =
-          let place : 4 * part + 0 ≡ 4 * part = omega arith in
-          let start = from_is ∙ ap (λ (i : ℕ). get_or s i 0) place in
           let long = count_is ∙ g.stored.0.count_is in
-          ap₂ (λ (f n : ℕ). get_or s (f + n) 0) start long ∙ g.stored.1
+          ap₂ (λ (f n : ℕ). get_or s (f + n) 0) from_is long ∙ g.stored.1
 
       in_order : InOrder sizes (get_or s (from + count) 0) count k
       in_order =

@@ -1,6 +1,6 @@
--- The stretch of a stored part: it can be read from the table, it is that of the part's list, and the list read so is the shape list by height or by width.
+-- The stretch of a stored part: it is that of the part's list, and the list read so is the shape list by height or by width.
 -- An entry has a word that is not 0 and so stands in the scratch; a part's list is read one way as for a row, the other as for a stack.
-use mathlib.Core.Path.{◌≡◌, sym, ap, subst, ◌∙◌}
+use mathlib.Core.Path.{◌≡◌, refl, sym, ap, subst, ◌∙◌}
 use mathlib.Core.Bool.{Bool, true, false}
 use mathlib.Core.List.{List}
 use Prim.Native.Nat.{ℕ, ◌+◌, ◌*◌, ◌≤◌, ◌<◌}
@@ -15,14 +15,16 @@ use Rattle.slicing.specs.Shapes.{shapes}
 use Rattle.slicing.proofs.Depths.{depth_few}
 use Rattle.slicing.proofs.ShapeLaws.{shapes_ordered}
 use Rattle.slicing.proofs.TurnLaws.{turn_ordered}
-use Rattle.entries.specs.inside.Kinds.{kind_of, across}
+use Rattle.entries.specs.declared.kinds.Kind.{Kind}
+use Rattle.entries.specs.declared.kinds.Kind.TheVariants.{Gauge, Beside, Stacked}
+use Rattle.entries.specs.inside.Kinds.{byte_of, kind_of, across}
 use Rattle.packed.specs.inside.Packed.{facing, HasList}
 use Rattle.packed.specs.inside.Joining.{read_as}
 use Rattle.packed.specs.declared.stretch.Stretch.{Stretch}
 use Rattle.stored.specs.inside.Store.{own_shapes, Stored}
 use Rattle.stored.specs.inside.PartWords.{stretch_of}
-use Rattle.stored.proofs.PartLists.{entry_of, own_beside, own_stacked, kind_low}
-use Rattle.laying.specs.inside.Taking.{join_kind}
+use Rattle.stored.proofs.PartLists.{entry_of, own_beside, own_stacked}
+use Rattle.laying.specs.inside.Taking.{goes_up, join_kind}
 
 -- A word that is not 0 is inside.
 pub word_inside : (s : List ℕ) (i : ℕ) → 1 ≤ get_or s i 0 → i < length s
@@ -37,11 +39,12 @@ table_inside gap s e t h =
     let some = depth_few t in
     word_inside s (4 * e + 3) (omega arith)
 
--- What reading the stretch asks.
-pub stretch_ready : (gap : ℕ) (s : List ℕ) (e : ℕ) (t : Tree) → Stored gap s e t → (4 * e + 3 < length s) × (get_or s (4 * e + 2) 0 < 256)
-stretch_ready gap s e t h =
-    let same = (entry_of gap s e t h).kind_is in
-    (table_inside gap s e t h, omega (arith, kind_low t))
+-- A join's kind says which way its parts are read.
+pub way_same : (s : List ℕ) (e : ℕ) (kind : Kind) → stretch_of s e (byte_of kind) ≡ stretch_of s e (join_kind (goes_up kind))
+unfolding across
+way_same s e Gauge = refl
+way_same s e Beside = refl
+way_same s e Stacked = refl
 
 own_facing : (gap : ℕ) (t : Tree) (upward : Bool) → facing (across (kind_of t) (join_kind upward)) (own_shapes gap t) ≡ facing upward (shapes gap t)
 own_facing gap t true = own_stacked gap t

@@ -7,21 +7,21 @@ use Rattle.laying.proofs.Searching.{search_filled, search_start, can_read_middle
 use Rattle.laying.proofs.take.first_no_larger.Goals as goal
 
 pub overflow_sub-high : goal.overflow_sub-high
-overflow_sub-high c = let some = search_filled _ _ _ _ _ c.requires in search rules
+overflow_sub-high c = let some = search_filled _ _ _ c.requires in search rules
 
 pub loop-low-init : goal.loop-low-init
 loop-low-init c = search (rules, search_start)
 
-pub read_item-z-requires : goal.read_item-z-requires
-read_item-z-requires c = can_read_middle _ _ _ _ _ _ _ c.requires c.loop-low.invariant c.loop-low-test.true
+pub item-requires : goal.item-requires
+item-requires c = can_read_middle _ _ _ _ _ c.requires c.loop-low.invariant c.loop-low-test.true
 
 pub loop-low-preserved-then-m-limit : goal.loop-low-preserved-then-m-limit
 loop-low-preserved-then-m-limit c =
-    search_lower _ _ _ _ _ _ _ _ _ _ c.loop-low.invariant c.loop-low-test.true refl c.read_item-z.ensures c.m_of-m.ensures (let t = c.if-m-limit.true in omega arith)
+    search_lower _ _ _ _ _ _ _ _ c.loop-low.invariant c.loop-low-test.true refl c.item.ensures c.m_of-m.ensures (let t = c.if-m-limit.true in omega arith)
 
 pub loop-low-preserved : goal.loop-low-preserved
 loop-low-preserved c =
-    search_upper _ _ _ _ _ _ _ _ _ _ c.loop-low.invariant c.loop-low-test.true refl c.read_item-z.ensures c.m_of-m.ensures (let t = c.if-m-limit.false in omega arith)
+    search_upper _ _ _ _ _ _ _ _ c.loop-low.invariant c.loop-low-test.true refl c.item.ensures c.m_of-m.ensures (let t = c.if-m-limit.false in omega arith)
 
 pub returns : goal.returns
-returns c = search_done _ _ _ _ _ _ _ c.loop-low.invariant c.loop-low-test.false
+returns c = search_done _ _ _ _ _ c.loop-low.invariant c.loop-low-test.false

@@ -5,7 +5,7 @@ use Rattle.laying.proofs.Searching.{Searching}
 use Rattle.laying.proofs.take.first_no_larger.Given as goal
 
 abbrev pub invariant-loop-low : goal.invariant-loop-low
-invariant-loop-low l = Searching l.scratch l.from l.count l.across l.limit l.low l.high
+invariant-loop-low l = Searching l.scratch l.list l.limit l.low l.high
 
 abbrev pub decreases-loop-low : goal.decreases-loop-low
 decreases-loop-low l = l.high - l.low

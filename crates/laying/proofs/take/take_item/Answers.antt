@@ -9,26 +9,26 @@ pub stretch-list-requires : goal.stretch-list-requires
 stretch-list-requires c = side_ready _ _ _ _ c.requires
 
 pub first_no_larger-k-requires : goal.first_no_larger-k-requires
-first_no_larger-k-requires c = can_search _ _ _ _ _ c.join_kind.ensures _ c.stretch-list.ensures c.requires
+first_no_larger-k-requires c = can_search _ _ _ _ _ c.stretch-list.ensures c.requires
 
-pub read_item-requires : goal.read_item-requires
-read_item-requires c =
-    can_read_found _ _ _ _ _ c.join_kind.ensures _ c.stretch-list.ensures _ c.first_no_larger-k.ensures c.requires
+pub item-requires : goal.item-requires
+item-requires c =
+    can_read_found _ _ _ _ _ c.stretch-list.ensures _ c.first_no_larger-k.ensures c.requires
 
 pub overflow_sub-result : goal.overflow_sub-result
 overflow_sub-result c =
-    let in_list : c.first_no_larger-k.result < c.stretch-list.result.count = found_inside _ _ _ _ _ c.join_kind.ensures _ c.stretch-list.ensures _ c.first_no_larger-k.ensures c.requires in
+    let in_list : c.first_no_larger-k.result < c.stretch-list.result.count = found_inside _ _ _ _ _ c.stretch-list.ensures _ c.first_no_larger-k.ensures c.requires in
     let inside = in_list in search rules
 
-pub overflow_sub-result-then-upward : goal.overflow_sub-result-then-upward
-overflow_sub-result-then-upward c =
-    let in_list : c.first_no_larger-k.result < c.stretch-list.result.count = found_inside _ _ _ _ _ c.join_kind.ensures _ c.stretch-list.ensures _ c.first_no_larger-k.ensures c.requires in
+pub overflow_sub-result-in-Stacked : goal.overflow_sub-result-in-Stacked
+overflow_sub-result-in-Stacked c =
+    let in_list : c.first_no_larger-k.result < c.stretch-list.result.count = found_inside _ _ _ _ _ c.stretch-list.ensures _ c.first_no_larger-k.ensures c.requires in
     let inside = in_list in search rules
 
-pub returns-then-upward : goal.returns-then-upward
-returns-then-upward c =
-    takes_upward _ _ _ _ _ c.join_kind.ensures _ c.stretch-list.ensures _ c.first_no_larger-k.ensures _ _ c.read_item.ensures c.p_of-extent.ensures c.if-upward.true
+pub returns-in-Stacked : goal.returns-in-Stacked
+returns-in-Stacked c =
+    takes_upward _ _ _ _ _ c.stretch-list.ensures _ c.first_no_larger-k.ensures _ _ c.item.ensures c.p_of-extent.ensures c.in-Stacked.is
 
-pub returns : goal.returns
-returns c =
-    takes_along _ _ _ _ _ c.join_kind.ensures _ c.stretch-list.ensures _ c.first_no_larger-k.ensures _ _ c.read_item.ensures c.p_of-extent.ensures c.if-upward.false
+pub returns-in_default : goal.returns-in_default
+returns-in_default c =
+    takes_along _ _ _ _ _ c.stretch-list.ensures _ c.first_no_larger-k.ensures _ _ c.item.ensures c.p_of-extent.ensures c.in_default.not-Stacked
