@@ -7,6 +7,7 @@ ghost use Rattle.picking.specs.inside.Picking.{Picks};
 
 use packed::item::{m_of, p_of};
 use packed::stretch::Stretch;
+use sizes::Size;
 
 // A size's rank among others: by area, and of equal areas by width.
 fn rank_of(height: u32, width: u32) -> u64
@@ -18,9 +19,9 @@ fn rank_of(height: u32, width: u32) -> u64
 
 // The place of the item of least area inside the opening, and of equal areas of the least width, going from the last
 // item to the first.
-pub fn pick(scratch: &[u32], list: Stretch, height: u32, width: u32) -> Option<usize>
+pub fn pick(scratch: &[u32], list: Stretch, opening: Size) -> Option<usize>
     requires { (l : List Item) × HasList scratch.now list.from l × (list.count ≡ length l) }
-    ensures { (l : List Item) → HasList scratch.now list.from l → list.count ≡ length l → Picks (outline height width) (facing list.across l) result }
+    ensures { (l : List Item) → HasList scratch.now list.from l → list.count ≡ length l → Picks (outline opening.height opening.width) (facing list.across l) result }
 {
     let mut found = None;
     let mut best = u64::MAX;
@@ -28,7 +29,7 @@ pub fn pick(scratch: &[u32], list: Stretch, height: u32, width: u32) -> Option<u
         let z = list.item(scratch, k);
         let h = m_of(z);
         let w = p_of(z);
-        if h <= height && w <= width {
+        if h <= opening.height && w <= opening.width {
             let rank = rank_of(h, w);
             if rank <= best {
                 best = rank;

@@ -4,7 +4,7 @@ use mathlib.Core.Logic.{inl, inr}
 use borrow.Author.Rules.{rules}
 use Rattle.picking.proofs.Looking.{can_read, halves_low, looking_start, looking_past, looking_worse, looking_taken, looking_done}
 use Rattle.picking.proofs.pick.pick.Goals as goal
-use Rattle.picking.proofs.pick.pick.Goals.{else-h-height-via-then-h-height+else-w-width, else-h-height-via-else-h-height}
+use Rattle.picking.proofs.pick.pick.Goals.{else-h-opening-via-then-h-opening+else-w-opening, else-h-opening-via-else-h-opening}
 
 pub loop-k-init : goal.loop-k-init
 loop-k-init c = search (rules, looking_start)
@@ -24,9 +24,9 @@ loop-k-preserved-else-rank-best c = search (rules, looking_worse)
 pub loop-k-preserved : goal.loop-k-preserved
 loop-k-preserved c =
     looking_past _ _ _ _ _ _ _ _ _ _ c.loop-k.invariant c.loop-k-test.true c.item-z.ensures c.m_of-h.ensures c.p_of-w.ensures
-    (elim c.else-h-height.branch [
-      | else-h-height-via-then-h-height+else-w-width w ↦ inr (w.if-h-height.true, w.if-w-width.false)
-      | else-h-height-via-else-h-height w ↦ inl w.if-h-height.false
+    (elim c.else-h-opening.branch [
+      | else-h-opening-via-then-h-opening+else-w-opening w ↦ inr (w.if-h-opening.true, w.if-w-opening.false)
+      | else-h-opening-via-else-h-opening w ↦ inl w.if-h-opening.false
     ])
 
 pub returns : goal.returns

@@ -4,4 +4,4 @@ use Rattle.picking.proofs.Looking.{Looking}
 use Rattle.picking.proofs.pick.pick.Given as goal
 
 abbrev pub invariant-loop-k : goal.invariant-loop-k
-invariant-loop-k l = Looking l.scratch l.list l.height l.width l.k l.found l.best
+invariant-loop-k l = Looking l.scratch l.list l.opening.height l.opening.width l.k l.found l.best
