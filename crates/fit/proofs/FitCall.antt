@@ -9,7 +9,7 @@ use Rattle.checks.specs.Check.{number_of}
 use Rattle.checks.specs.declared.Check.{Check}
 use Rattle.checks.specs.declared.Check.TheVariants.{Fits}
 use Rattle.checks.specs.Limits.{most_rib, buffer_words}
-use Rattle.checks.specs.Answer.{Answer, refused, taken, Asked, also, number}
+use Rattle.checks.specs.Answer.{Answer, refused, taken, Asked, also}
 use Rattle.checks.proofs.Answers.{number_positive, not_both, same_taken, also_taken, RefusedBy, refused_weaker, also_refused}
 use Rattle.checks.proofs.FileChecks.{FileCheck, file_not_fits}
 use Rattle.slicing.specs.Item.{height, width}
@@ -19,16 +19,15 @@ use Rattle.slicing.specs.Layout.{Outline, outline}
 use Rattle.slicing.specs.Fit.{Pick, nothing, picked, smallest, place}
 use Rattle.slicing.specs.FitMeans.{NothingFits, FitMeans}
 use Rattle.slicing.proofs.Demand3.{demand_3}
-use Rattle.facefile.specs.declared.Face.{Face}
+use Rattle.facefile.specs.declared.Counts.{Counts}
 use Rattle.facefile.specs.Format.{face_of}
-use Rattle.facefile.specs.Summary.{summary}
-use Rattle.facefile.proofs.Answered.{Counts}
+use Rattle.facefile.specs.Summary.{counted}
 use Rattle.facefile.proofs.Refused.{face_refused}
 use Rattle.facefile.proofs.Taken.{face_taken}
 use Rattle.lent.specs.Lent.{Lent, lent}
 use Rattle.lent.specs.Questions.{levels_lent, rib_given, opening_given, buffers_lent, output_lent}
 use Rattle.lent.proofs.Asking.{Levelled, levels_taken, rib_taken, buffers_taken, output_taken, levels_refused, rib_refused, opening_refused, buffers_refused, output_refused}
-use Rattle.lent.proofs.Calling.{call_refused, counts, asked_of_counts, refused_by_file, refused_by_asked, asked_taken, taken_by_all}
+use Rattle.lent.proofs.Calling.{call_refused, counts_of, CountedFace, call_no_file, called, call_no_asked, call_goes}
 use Rattle.entries.specs.declared.kinds.Kind.{Kind}
 use Rattle.parts.specs.inside.Building.{Buildable, Whole}
 use Rattle.shapes.proofs.RootLaws.{root_list}
@@ -149,83 +148,74 @@ module _ (file levels : List ℕ) (rib h w : ℕ) (arena scratch output : List �
   abbrev answer : Answer Tree
   answer = fit_checks (face_of file) levels rib o old
 
-  abbrev asked : ℕ → ℕ → Asked
-  asked n g = fit_asks n (5 * g) levels rib o (length arena) (length scratch) (length output)
-
-  abbrev asks : Tree → Asked
-  asks t = asked (size_count t) (gauge_count t)
+  abbrev asked : Counts → Asked
+  asked n = fit_asks n.sizes (5 * n.gauges) levels rib o (length arena) (length scratch) (length output)
 
   before_fits : RefusedBy NotFits answer
   unfolding fit_checks
   before_fits =
-      call_refused (face_of file) asks NotFits (refused_weaker FileCheck NotFits file_not_fits (face_of file) (face_refused file))
+      call_refused (face_of file) (λ t. asked (counts_of t)) NotFits (refused_weaker FileCheck NotFits file_not_fits (face_of file) (face_refused file))
       (λ t. asks_refused (size_count t) (5 * gauge_count t) levels rib h w (length arena) (length scratch) (length output))
 
-  refused_all : (n : ℕ) → (c : Check) × (answer ≡ refused c) × (n ≡ number_of c) → (r : Fitted) → r ≡ no_face n → FitLeaves answer levels rib o old r old
-  refused_all n bad r made =
-      let same = made ∙ ap no_face bad.2 in
-      let other = subst (λ (a : Answer Tree). RefusedBy NotFits a) bad.1 before_fits in
-      subst (λ (a : Answer Tree). FitLeaves a levels rib o old r old) (sym bad.1)
+  refused_all : (c : Check) → answer ≡ refused c → FitLeaves answer levels rib o old (no_face (number_of c)) old
+  refused_all c bad =
+      let other = subst (λ (a : Answer Tree). RefusedBy NotFits a) bad before_fits in
+      subst (λ (a : Answer Tree). FitLeaves a levels rib o old (no_face (number_of c)) old) (sym bad)
       (record {
-        answered = same;
+        answered = refl;
         output = refl;
         arena = refl;
         scratch = refl;
-        demand_3 = demand_refused bad.0 other rib o r output same;
+        demand_3 = demand_refused c other rib o (no_face (number_of c)) output refl;
       })
 
-  module _ (f : Face) (read : f ≡ summary (face_of file)) where
-    -- Checks 1 to 13.
-    pub fit_file : (f.number ≡ 0 → ⊥) → (r : Fitted) → r ≡ no_face f.number → FitLeaves answer levels rib o old r old
+  -- Checks 1 to 13.
+  pub fit_file : (c : Check) → ◌≡◌ {A = Answer Counts} (refused c) (counted (face_of file)) → FitLeaves answer levels rib o old (no_face (number_of c)) old
+  unfolding fit_checks
+  fit_file c e = refused_all c (call_no_file (face_of file) asked c e)
+
+  module _ (n : Counts) (read : taken n ≡ counted (face_of file)) where
+    abbrev face : CountedFace n (face_of file)
+    face = called (face_of file) asked n read
+
+    -- The checks after 13.
+    pub fit_asked : (c : Check) → refused c ≡ asked n → FitLeaves answer levels rib o old (no_face (number_of c)) old
     unfolding fit_checks
-    fit_file other = refused_all f.number (refused_by_file (face_of file) asks f read other)
+    fit_asked c e = refused_all c (call_no_asked (face_of file) asked n read c e)
 
-    module _ (zero : f.number ≡ 0) where
-      abbrev face : Counts f (face_of file)
-      face = counts (face_of file) asks f read zero
+    module _ (passed : taken tt ≡ asked n) where
+      abbrev t : Tree
+      t = face.tree
 
-      module _ (n : ℕ) (is : n ≡ number (asked f.sizes f.gauges)) where
-        of_tree : n ≡ number (asks face.tree)
-        of_tree = is ∙ ap number (asked_of_counts (face_of file) asks f read zero asked)
+      all : Lended (size_count t) (5 * gauge_count t) levels rib h w (length arena) (length scratch) (length output)
+      all =
+          subst (λ (m : Counts). Lended m.sizes (5 * m.gauges) levels rib h w (length arena) (length scratch) (length output)) face.counts
+          (asks_taken n.sizes (5 * n.gauges) levels rib h w (length arena) (length scratch) (length output) (sym passed))
 
-        -- The checks after 13.
-        pub fit_asked : (n ≡ 0 → ⊥) → (r : Fitted) → r ≡ no_face n → FitLeaves answer levels rib o old r old
-        unfolding fit_checks
-        fit_asked other = refused_all n (refused_by_asked (face_of file) asks f read zero n of_tree other)
+      pub fit_builds : Buildable file levels rib arena
+      fit_builds = lended_builds file levels rib h w arena t face.face (5 * gauge_count t) (length scratch) (length output) all
 
-        module _ (passed : n ≡ 0) where
-          abbrev t : Tree
-          t = face.tree
+      pub fit_places : Placeable file rib scratch output
+      fit_places =
+          record {
+            tree = t;
+            face = face.face;
+            narrow = all.narrow;
+            long = all.scratch_long;
+            room = all.long;
+          }
 
-          all : Lended (size_count t) (5 * gauge_count t) levels rib h w (length arena) (length scratch) (length output)
-          all =
-              asks_taken (size_count t) (5 * gauge_count t) levels rib h w (length arena) (length scratch) (length output)
-              (asked_taken (face_of file) asks f read zero n of_tree passed)
-
-          pub fit_builds : Buildable file levels rib arena
-          fit_builds = lended_builds file levels rib h w arena t face.face (5 * gauge_count t) (length scratch) (length output) all
-
-          pub fit_places : Placeable file rib scratch output
-          fit_places =
-              record {
-                tree = t;
-                face = face.face;
-                narrow = all.narrow;
-                long = all.scratch_long;
-                room = all.long;
-              }
-
-          pub fit_done : (kind : Kind) (arena' scratch' output' : List ℕ) (r : Fitted) → ((t : Tree) → face_of file ≡ taken t → Whole file levels rib arena arena' kind t) → PlacedIn file rib o r output output' → FitLeaves answer levels rib o old r (lent arena' scratch' output')
-          unfolding fit_checks PlacedIn
-          fit_done kind arena' scratch' output' r whole placed =
-              let p = placed t face.face in
-              let means = demand_3 rib t (face_taken file t face.face).good o in
-              subst (λ (a : Answer Tree). FitLeaves a levels rib o old r (lent arena' scratch' output'))
-              (sym (taken_by_all (face_of file) asks f read zero n of_tree passed))
-              (record {
-                answered = p.answer;
-                output = p.written;
-                arena = root_list file levels rib arena arena' output kind t face.face (whole t face.face);
-                scratch = tt;
-                demand_3 = demand_picked rib t o (smallest o (shapes rib t)) means refl r output output' p.answer p.written;
-              })
+      pub fit_done : (kind : Kind) (arena' scratch' output' : List ℕ) (r : Fitted) → ((t : Tree) → face_of file ≡ taken t → Whole file levels rib arena arena' kind t) → PlacedIn file rib o r output output' → FitLeaves answer levels rib o old r (lent arena' scratch' output')
+      unfolding fit_checks PlacedIn
+      fit_done kind arena' scratch' output' r whole placed =
+          let p = placed t face.face in
+          let means = demand_3 rib t (face_taken file t face.face).good o in
+          subst (λ (a : Answer Tree). FitLeaves a levels rib o old r (lent arena' scratch' output'))
+          (sym (call_goes (face_of file) asked n read passed))
+          (record {
+            answered = p.answer;
+            output = p.written;
+            arena = root_list file levels rib arena arena' output kind t face.face (whole t face.face);
+            scratch = tt;
+            demand_3 = demand_picked rib t o (smallest o (shapes rib t)) means refl r output output' p.answer p.written;
+          })

@@ -3,5 +3,5 @@
 
 mod fitting;
 
-pub use fitting::{Lengths, asked_number, fit};
+pub use fitting::{Lengths, asked, fit};
 pub use placing::Fitted;
