@@ -5,8 +5,10 @@ use mathlib.Core.List.{List}
 use Prim.Native.Nat.{ℕ, ◌+◌, ◌*◌, ◌^◌, ◌≤◌, ◌<◌}
 use native.Mathlib.Omega.{arith}
 use lib.ListN.{length, take}
+use Rattle.checks.specs.Check.{number_of}
+use Rattle.checks.specs.declared.Check.{Check}
 use Rattle.checks.specs.Limits.{most_rib}
-use Rattle.checks.proofs.Answers.{same_taken}
+use Rattle.checks.proofs.Answers.{number_positive, same_taken}
 use Rattle.text.specs.Printing.{Printed as TextPrinted}
 use Rattle.slicing.specs.Item.{Item}
 use Rattle.slicing.specs.Tree.{Tree}
@@ -20,7 +22,7 @@ use Rattle.facefile.proofs.Taken.{TakenFace, face_taken}
 use Rattle.lent.specs.Lent.{written_over}
 use Rattle.lent.proofs.Starts.{starts}
 use Rattle.placing.specs.declared.Fitted.{Fitted}
-use Rattle.placing.specs.Found.{face_found, face_words}
+use Rattle.placing.specs.Found.{no_face, face_found, face_words}
 use Rattle.placing.specs.inside.Facing.{Placeable, PlacedFace, PlacedIn}
 use Rattle.covering.specs.Covered.{sizes_in, total, used, blank}
 use Rattle.covering.proofs.Covering.{used_and_blank}
@@ -85,8 +87,12 @@ module _ (file : List ℕ) (gauges rib : ℕ) (scratch output : List ℕ) (p : P
         }
     none_found (picked z) e f other r made = absurd (other (ap (λ (x : Fitted). x.number) f))
 
-    pub sheet_none : (face.number ≡ 0 → ⊥) → (r : Printed) → r ≡ no_sheet face.number → PrintedIn file rib o r output output
-    sheet_none other r made = of_all o r output (none_found (smallest o (shapes rib t)) refl own.answer other r made)
+    pub sheet_none : (c : Check) → face ≡ no_face (number_of c) → PrintedIn file rib o (no_sheet (number_of c)) output output
+    sheet_none c e =
+        let n = ap (λ (x : Fitted). x.number) e in
+        let some = number_positive c in
+        of_all o (no_sheet (number_of c)) output
+        (none_found (smallest o (shapes rib t)) refl own.answer (λ zero. omega arith) (no_sheet (number_of c)) (ap (λ (x : Fitted). no_sheet x.number) (sym e)))
 
     module _ (zero : face.number ≡ 0) where
       found : (pick : Pick) → smallest o (shapes rib t) ≡ pick → FitMeans rib t o pick → face ≡ face_found rib t pick → layout ≡ face_words rib t pick room → (z : Item) × Sheeted gauges rib t o face layout z

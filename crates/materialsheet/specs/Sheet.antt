@@ -1,6 +1,7 @@
 -- Document 02, Paper 7, the sheet call: its checks, what it answers, and what it leaves in the output.
-use Rattle.std.specs.Prelude.{List, ℕ, length}
+use Rattle.std.specs.Prelude.{Result, Ok, Err, List, ℕ, length}
 use Rattle.checks.specs.Check.{number_of}
+use Rattle.checks.specs.declared.Check.{Check}
 use Rattle.checks.specs.declared.Check.TheVariants.{Fits}
 use Rattle.checks.specs.Answer.{Answer, refused, taken}
 use Rattle.slicing.specs.Tree.{Tree, gauge_count, size_count}
@@ -28,6 +29,11 @@ sheet_checks face levels rib o old =
 -- A refusal: the number, and no text.
 abbrev pub no_sheet : ℕ → Printed
 no_sheet n = record { number = n; length = 0 }
+
+-- A sheet that is printed is answered with the number 0 and its length, a check that fails with its number alone.
+abbrev pub printed_as : Result ℕ Check → Printed
+printed_as (Ok n) = record { number = 0; length = n }
+printed_as (Err c) = no_sheet (number_of c)
 
 -- "Does a layout fit? 19." "The sheet's layout ... [is] the fit's, and the length of the text is returned."
 abbrev pub sheet_found : ℕ → Tree → Pick → Printed

@@ -1,6 +1,11 @@
 // The material sheet of the smallest face in an opening.
 #![tactic(auto)]
 
+ghost use Rattle.std.specs.Prelude.{◌≡◌};
+ghost use Rattle.materialsheet.specs.Sheet.{printed_as};
+
+use checks::Check;
+
 mod face;
 mod printing;
 
@@ -12,4 +17,18 @@ pub use printing::sheet;
 pub struct Printed {
     pub number: u32,
     pub length: u32,
+}
+
+impl From<Result<u32, Check>> for Printed {
+    ghost from_gives = { λ answer r. r ≡ printed_as answer };
+
+    fn from(answer: Result<u32, Check>) -> Printed {
+        match answer {
+            Ok(length) => Printed { number: 0, length },
+            Err(check) => Printed {
+                number: check.number(),
+                length: 0,
+            },
+        }
+    }
 }
