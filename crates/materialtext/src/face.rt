@@ -11,6 +11,7 @@ use checks::limits::WORDS;
 use materialsheet::print_face;
 use rendering::render::render_refused;
 use report::{OPENING, RIB};
+use sizes::Size;
 
 // A scratch. The `ensures` gives only the length, which lending needs.
 fn words_room() -> [u32; WORDS]
@@ -27,11 +28,14 @@ fn taken_text(file: &[u8], gauges: usize, text: &mut [u8]) -> usize
     ensures counted { Counted material_bytes text.new result }
 {
     let mut scratch = words_room();
-    let sheet = print_face(file, gauges, RIB, OPENING, OPENING, &mut scratch, text);
-    if sheet.number != checks::TAKEN {
-        return render_refused(sheet.number, text);
+    let opening = Size {
+        height: OPENING,
+        width: OPENING,
+    };
+    match print_face(file, gauges, RIB, opening, &mut scratch, text) {
+        Ok(length) => length as usize,
+        Err(check) => render_refused(check.number(), text),
     }
-    sheet.length as usize
 }
 
 // The text that `material` prints for a file of these bytes, in a buffer with room for every text. Answers its length; 0,

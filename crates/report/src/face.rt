@@ -14,6 +14,7 @@ use crate::TEXT;
 use checks::limits::{SIZES, WORDS};
 use placing::Fitted;
 use rendering::render::{render, render_refused};
+use sizes::Size;
 
 // The height and the width of the opening.
 pub const OPENING: u32 = 64_000;
@@ -95,8 +96,12 @@ fn placed_text(
     let mut items = items_room();
     let mut layout = layout_room();
     let count = shapes::write_list(file, levels, RIB, words, &mut items);
-    let face = placing::place_face(file, RIB, OPENING, OPENING, words, &mut layout);
-    told_text(face, count, &items, gauges, &layout, text)
+    let opening = Size {
+        height: OPENING,
+        width: OPENING,
+    };
+    let face = placing::place_face(file, RIB, opening, words, &mut layout);
+    told_text(face.into(), count, &items, gauges, &layout, text)
 }
 
 // The text of a taken face, by way of a levels buffer of as many bytes as it has sizes.
