@@ -14,7 +14,8 @@ use splicing::rest::Rest;
 const SECOND: usize = FORWARD + 1;
 
 // Moves the records in front of a list behind an open list: by their links where one of them has link 1, and else by one
-// walk.
+// walk. Both steps of the merge so have the walk, which most runs are, in the merge's own loop.
+#[inline(always)]
 pub fn move_run(arena: &mut [u32], rest: &mut Rest, key: u32, q: u32, ends: &mut Ends)
     requires run_ready { RunReady arena.old rest.old.head key ends.old.lasts }
     requires cached { CachedIn arena.old rest.old ends.old }

@@ -4,12 +4,12 @@ use Rattle.std.proofs.Common.{◌≡◌, ℕ, suc, ◌+◌, ◌-◌, ◌<◌, �
 use borrow.Author.Tests.{lt-leb}
 use Rattle.arena.specs.Arena.{word, level, m_word, forward, adjust}
 use Rattle.arena.specs.Lazy.{next_with, last_with}
-use Rattle.arena.specs.inside.Chain.{Has, All, Chain}
+use Rattle.arena.specs.inside.Chain.{Has, All, Links, Chain}
 use Rattle.arena.proofs.ListLaws.{last_here, last_none, last_append, Jump, jump, all_right, chain_right}
-use Rattle.arena.proofs.Walking.{count, count_is}
+use Rattle.arena.proofs.Walking.{count, count_is, one_list}
 use Rattle.arena.proofs.Frames.{next_here, next_past}
 use Rattle.arena.proofs.Cases.{lt_or_ge, eq_or_ne}
-use Rattle.searching.specs.inside.Cut.{front, Falling, Searchable, CutAt, Along, passes, Reachable}
+use Rattle.searching.specs.inside.Cut.{front, Falling, Searchable, CutAt, passes, Reachable}
 
 pub front_in : (a : List ℕ) (key r : ℕ) (rs : List ℕ) → key ≤ m_word a r → front a key (r ∷ rs) ≡ r ∷ front a key rs
 unfolding front
@@ -65,11 +65,38 @@ none_in_front a k key (r ∷ rs) c f e =
     by true h n = (h, n)
     by false h n = tt
 
-pub along_start : (a : List ℕ) (h key n : ℕ) (rs : List ℕ) → Searchable a h rs → n ≤ 8 → Along a h key n rs h
-along_start a h key n rs s few =
+-- The state of the search: the record cur, before the records post, and the links below i still to be cut, of n.
+pub record Going (a : List ℕ) (h key n : ℕ) (cut₀ sums₀ cut sums : List ℕ) (cur i : ℕ) : Type 0 where
+  pub rs : List ℕ
+  pub list : Searchable a h rs
+  pub post : List ℕ
+  pub all : n ≤ 8
+  pub inside : i ≤ n
+  pub high : i ≤ level a cur
+  pub has : Has a cur
+  pub links : Links a cur post
+  pub chain : Chain a post
+  pub falling : Falling a post
+  pub few : length post ≤ 512
+  pub same : (k : ℕ) → k < i → last_with a k h (front a key rs) ≡ last_with a k cur (front a key post)
+  pub done : (k : ℕ) → i ≤ k → k < n → get_or cut k 0 ≡ last_with a k h (front a key rs)
+  pub sums_done : (k : ℕ) → i ≤ k → k < n → get_or sums k 0 ≡ adjust a (last_with a k h (front a key rs)) k
+  pub long : 8 ≤ length cut
+  pub kept : length cut ≡ length cut₀
+  pub sums_long : 8 ≤ length sums
+  pub sums_kept : length sums ≡ length sums₀
+
+pub going_start : (a : List ℕ) (h key n : ℕ) (cut sums : List ℕ) → (rs : List ℕ) × Searchable a h rs → (n ≤ 8) × (8 ≤ length cut) × (8 ≤ length sums) → Going a h key n cut sums cut sums h n
+going_start a h key n cut sums r l =
+    let s = r.1 in
     let top = s.linked.top in
+    let few = l.0 in
     record {
-      post = rs;
+      rs = r.0;
+      list = s;
+      post = r.0;
+      all = l.0;
+      inside = omega arith;
       high = omega arith;
       has = s.linked.has;
       links = s.linked.links;
@@ -77,29 +104,21 @@ along_start a h key n rs s few =
       falling = s.falling;
       few = s.few;
       same = λ k e. refl;
+      done = λ k e f. absurd (omega arith);
+      sums_done = λ k e f. absurd (omega arith);
+      long = l.1;
+      kept = refl;
+      sums_long = l.2;
+      sums_kept = refl;
     }
 
-pub along_lower : (a : List ℕ) (h key i j : ℕ) (rs : List ℕ) (cur : ℕ) → j ≤ i → Along a h key i rs cur → Along a h key j rs cur
-along_lower a h key i j rs cur low g =
-    let high = g.high in
-    record {
-      post = g.post;
-      high = omega arith;
-      has = g.has;
-      links = g.links;
-      chain = g.chain;
-      falling = g.falling;
-      few = g.few;
-      same = λ k e. g.same k (omega arith);
-    }
+-- One turn at the link i - 1, whose forward is nxt.
+module _ (a : List ℕ) (h key n : ℕ) (cut₀ sums₀ cut sums : List ℕ) (cur i nxt : ℕ) (g : Going a h key n cut₀ sums₀ cut sums cur i) (more : 0 < i) (e : nxt ≡ word a cur (3 + (i - 1))) where
+  is_next : nxt ≡ next_with a (i - 1) g.post
+  is_next = e ∙ g.links.at (i - 1) (let x = g.high in omega arith)
 
--- The forward of cur at link k is nxt.
-module _ (a : List ℕ) (h key k : ℕ) (rs : List ℕ) (cur nxt : ℕ) (list : Searchable a h rs) (g : Along a h key (suc k) rs cur) (e : nxt ≡ word a cur (3 + k)) where
-  is_next : nxt ≡ next_with a k g.post
-  is_next = e ∙ g.links.at k (let x = g.high in omega arith)
-
-  step : 1 ≤ nxt → Jump a k g.post
-  step s = jump a k g.post (subst (λ (n : ℕ). 1 ≤ n) is_next s)
+  step : 1 ≤ nxt → Jump a (i - 1) g.post
+  step s = jump a (i - 1) g.post (subst (λ (n : ℕ). 1 ≤ n) is_next s)
 
   split : (s : 1 ≤ nxt) → g.post ≡ (step s).before ++ (nxt ∷ (step s).after)
   split s = (step s).split ∙ ap (λ (n : ℕ). (step s).before ++ (n ∷ (step s).after)) (sym is_next)
@@ -107,153 +126,106 @@ module _ (a : List ℕ) (h key k : ℕ) (rs : List ℕ) (cur nxt : ℕ) (list : 
   rest : (s : 1 ≤ nxt) → Chain a (nxt ∷ (step s).after)
   rest s = chain_right a (step s).before (nxt ∷ (step s).after) (subst (λ (l : List ℕ). Chain a l) (split s) g.chain)
 
-  pub along_reach : Reachable a nxt
-  along_reach =
-      let head = list.linked.has in
-      record { has = lt_or_ge 0 nxt (λ s. (rest s).0.has) (λ none. omega arith); floor = list.floor }
+  pub going_has : Reachable a nxt
+  going_has =
+      let head = g.list.linked.has in
+      record { has = lt_or_ge 0 nxt (λ s. (rest s).0.has) (λ none. omega arith); floor = g.list.floor }
 
-  module _ (p : passes a nxt key ≡ true) where
-    abbrev some : 1 ≤ nxt
-    some = (passes_yes a nxt key p).0
-
-    pub along_jump : Along a h key (suc k) rs nxt
-    along_jump =
-        let yes_pass = passes_yes a nxt key p in
-        let j = step some in
-        let fall = subst (λ (l : List ℕ). Falling a l) (split some) g.falling in
-        let link = subst (λ (n : ℕ). k < level a n) (sym is_next) j.link in
-        let long : length g.post ≡ length j.before + suc (length j.after) = ap length (split some) ∙ length-append j.before (nxt ∷ j.after) in
-        record {
-          post = j.after;
-          high = omega arith;
-          has = (rest some).0.has;
-          links = (rest some).0.links;
-          chain = (rest some).1;
-          falling = falling_right a (j.before ++ (nxt ∷ [])) j.after (subst (λ (l : List ℕ). Falling a l) (sym (append_assoc j.before (nxt ∷ []) j.after)) fall);
-          few = let f = g.few in omega arith;
-          same = λ i below.
-              g.same i below
-              ∙ ap (λ (l : List ℕ). last_with a i cur (front a key l)) (split some)
-              ∙ ap (last_with a i cur) (front_jump a key nxt j.before j.after fall yes_pass.1)
-              ∙ last_append a i cur j.before (nxt ∷ front a key j.after)
-              ∙ last_here a i (last_with a i cur j.before) nxt (front a key j.after) (omega arith);
-        }
-
-    pub along_less : count 512 a (forward a nxt 0) < count 512 a (forward a cur 0)
-    along_less =
-        let j = step some in
-        let r = rest some in
-        let few = g.few in
-        let long : length g.post ≡ length j.before + suc (length j.after) = ap length (split some) ∙ length-append j.before (nxt ∷ j.after) in
-        let x = g.high in
-        let now_left = count_is 512 a g.post (forward a cur 0) g.chain (g.links.at 0 (omega arith)) few in
-        let then_left = count_is 512 a j.after (forward a nxt 0) r.1 (r.0.links.at 0 r.0.low) (omega arith) in
-        omega arith
-
-  pub along_last : passes a nxt key ≡ false → cur ≡ last_with a k h (front a key rs)
-  along_last p =
-      let none = none_in_front a k key g.post g.chain g.falling (subst (λ (n : ℕ). passes a n key ≡ false) is_next p) in
-      sym (g.same k (omega arith) ∙ last_none a k cur (front a key g.post) none)
-
--- What following link k from a record keeps: each way along a list goes on, to the record `last`, and the next one is read.
-pub record Following (a : List ℕ) (from key k last next : ℕ) : Type 0 where
-  pub further : (h : ℕ) (rs : List ℕ) → Searchable a h rs → Along a h key (suc k) rs from → Along a h key (suc k) rs last
-  pub next_is : next ≡ word a last (3 + k)
-
--- Such a way is there.
-abbrev pub Way : List ℕ → ℕ → ℕ → ℕ → Type 0
-Way a from key k = (h : ℕ) × (rs : List ℕ) × Searchable a h rs × Along a h key (suc k) rs from
-
-module _ (a : List ℕ) (from key k last next : ℕ) (w : Way a from key k) (g : Following a from key k last next) where
-  along : Along a w.0 key (suc k) w.1 last
-  along = g.further w.0 w.1 w.2 w.3
-
-  pub following_reach : Reachable a next
-  following_reach = along_reach a w.0 key k w.1 last next w.2 along g.next_is
-
-  pub following_has : Has a last
-  following_has = along.has
-
-  pub following_less : passes a next key ≡ true → count 512 a (forward a next 0) < count 512 a (forward a last 0)
-  following_less p = along_less a w.0 key k w.1 last next w.2 along g.next_is p
-
-pub following_start : (a : List ℕ) (from key k next : ℕ) → next ≡ word a from (3 + k) → Following a from key k from next
-following_start a from key k next e = record { further = λ h rs s g. g; next_is = e }
-
-pub following_turn : (a : List ℕ) (from key k last next after : ℕ) → Following a from key k last next → passes a next key ≡ true → after ≡ word a next (3 + k) → Following a from key k next after
-following_turn a from key k last next after g p e =
-    record {
-      further = λ h rs s w. along_jump a h key k rs last next s (g.further h rs s w) g.next_is p;
-      next_is = e;
-    }
-
-pub following_last : (a : List ℕ) (from key k last next : ℕ) → Following a from key k last next → passes a next key ≡ false → (h : ℕ) (rs : List ℕ) → Searchable a h rs → Along a h key (suc k) rs from → last ≡ last_with a k h (front a key rs)
-following_last a from key k last next g p h rs s w =
-    along_last a h key k rs last next s (g.further h rs s w) g.next_is p
-
--- What the search keeps, from the highest of n links down: the record cur is on the way for the links below i, and the others are cut.
-pub record Going (a : List ℕ) (h key n : ℕ) (lasts adjusts : List ℕ) (cur i : ℕ) : Type 0 where
-  pub all : n ≤ 8
-  pub inside : i ≤ n
-  pub long : 8 ≤ length lasts
-  pub adjusts_long : 8 ≤ length adjusts
-  pub along : (rs : List ℕ) → Searchable a h rs → Along a h key i rs cur
-  pub done : (rs : List ℕ) → Searchable a h rs → (k : ℕ) → i ≤ k → k < n → get_or lasts k 0 ≡ last_with a k h (front a key rs)
-  pub adjusts_done : (rs : List ℕ) → Searchable a h rs → (k : ℕ) → i ≤ k → k < n → get_or adjusts k 0 ≡ adjust a (last_with a k h (front a key rs)) k
-
-pub going_start : (a : List ℕ) (h key n : ℕ) (lasts adjusts : List ℕ) → n ≤ 8 → 8 ≤ length lasts → 8 ≤ length adjusts → Going a h key n lasts adjusts h n
-going_start a h key n lasts adjusts few long adjusts_long =
-    record {
-      all = few;
-      inside = omega arith;
-      long = long;
-      adjusts_long = adjusts_long;
-      along = λ rs s. along_start a h key n rs s few;
-      done = λ rs s k e f. absurd (omega arith);
-      adjusts_done = λ rs s k e f. absurd (omega arith);
-    }
-
--- One turn at the link i - 1, whose last record in front is `last`.
-module _ (a : List ℕ) (h key n : ℕ) (lasts adjusts : List ℕ) (cur i : ℕ) (g : Going a h key n lasts adjusts cur i) (more : 0 < i) where
-  abbrev k : ℕ
-  k = i - 1
-
-  on_way : (rs : List ℕ) → Searchable a h rs → Along a h key (suc k) rs cur
-  on_way rs s = along_lower a h key i (suc k) rs cur (omega arith) (g.along rs s)
-
-  pub going_way : (rs : List ℕ) × Searchable a h rs → Way a cur key k
-  going_way r = (h, r.0, r.1, on_way r.0 r.1)
-
-  pub going_turn : (last v : ℕ) → ((x : ℕ) (rs : List ℕ) → Searchable a x rs → Along a x key (suc k) rs cur → Along a x key (suc k) rs last) → ((x : ℕ) (rs : List ℕ) → Searchable a x rs → Along a x key (suc k) rs cur → last ≡ last_with a k x (front a key rs)) → v ≡ word a last (11 + k) → Going a h key n (set lasts k last) (set adjusts k v) last k
-  going_turn last v further is v_is =
-      let long = g.long in
-      let adjusts_long = g.adjusts_long in
-      let inside = g.inside in
-      let all = g.all in
+  pub going_jump : passes a nxt key ≡ true → Going a h key n cut₀ sums₀ cut sums nxt i
+  going_jump p =
+      let yes_pass = passes_yes a nxt key p in
+      let s = yes_pass.0 in
+      let j = step s in
+      let fall = subst (λ (l : List ℕ). Falling a l) (split s) g.falling in
+      let link = subst (λ (n : ℕ). i - 1 < level a n) (sym is_next) j.link in
+      let long : length g.post ≡ length j.before + suc (length j.after) = ap length (split s) ∙ length-append j.before (nxt ∷ j.after) in
       record {
-        all = all;
-        inside = omega arith;
-        long = omega (arith, length-set lasts k last);
-        adjusts_long = omega (arith, length-set adjusts k v);
-        along = λ rs s. along_lower a h key (suc k) k rs last (omega arith) (further h rs s (on_way rs s));
-        done = λ rs s j low high.
-            let here = is h rs s (on_way rs s) in
-            eq_or_ne j k (λ same. rw same (get_or-set_same lasts k last 0 (omega arith) ∙ here))
-            (λ other. get_or-set_other lasts k j last 0 other ∙ g.done rs s j (omega arith) high);
-        adjusts_done = λ rs s j low high.
-            let here = is h rs s (on_way rs s) in
-            eq_or_ne j k
-            (λ same. rw same (get_or-set_same adjusts k v 0 (omega arith) ∙ v_is ∙ ap (λ (x : ℕ). adjust a x k) here))
-            (λ other. get_or-set_other adjusts k j v 0 other ∙ g.adjusts_done rs s j (omega arith) high);
+        rs = g.rs;
+        list = g.list;
+        post = j.after;
+        all = g.all;
+        inside = g.inside;
+        high = omega arith;
+        has = (rest s).0.has;
+        links = (rest s).0.links;
+        chain = (rest s).1;
+        falling = falling_right a (j.before ++ (nxt ∷ [])) j.after (subst (λ (l : List ℕ). Falling a l) (sym (append_assoc j.before (nxt ∷ []) j.after)) fall);
+        few = let f = g.few in omega arith;
+        same = λ k below.
+            g.same k below
+            ∙ ap (λ (l : List ℕ). last_with a k cur (front a key l)) (split s)
+            ∙ ap (last_with a k cur) (front_jump a key nxt j.before j.after fall yes_pass.1)
+            ∙ last_append a k cur j.before (nxt ∷ front a key j.after)
+            ∙ last_here a k (last_with a k cur j.before) nxt (front a key j.after) (omega arith);
+        done = g.done;
+        sums_done = g.sums_done;
+        long = g.long;
+        kept = g.kept;
+        sums_long = g.sums_long;
+        sums_kept = g.sums_kept;
       }
 
-pub going_done : (a : List ℕ) (h key n : ℕ) (lasts adjusts : List ℕ) (cur i : ℕ) → Going a h key n lasts adjusts cur i → i ≤ 0 → (rs : List ℕ) → Searchable a h rs → CutAt a h key n rs lasts adjusts
-going_done a h key n lasts adjusts cur i g z rs s =
+  pub going_lower : passes a nxt key ≡ false → (v : ℕ) → v ≡ word a cur (11 + (i - 1)) → Going a h key n cut₀ sums₀ (set cut (i - 1) cur) (set sums (i - 1) v) cur (i - 1)
+  going_lower p v v_is =
+      let none = none_in_front a (i - 1) key g.post g.chain g.falling (subst (λ (n : ℕ). passes a n key ≡ false) is_next p) in
+      let here : cur ≡ last_with a (i - 1) h (front a key g.rs) = sym (g.same (i - 1) (omega arith) ∙ last_none a (i - 1) cur (front a key g.post) none) in
+      let long = g.long in
+      let inside = g.inside in
+      record {
+        rs = g.rs;
+        list = g.list;
+        post = g.post;
+        all = g.all;
+        inside = omega arith;
+        high = let x = g.high in omega arith;
+        has = g.has;
+        links = g.links;
+        chain = g.chain;
+        falling = g.falling;
+        few = g.few;
+        same = λ k below. g.same k (omega arith);
+        done = λ k low high. stored k low high here;
+        sums_done = λ k low high. stored_sum k low high here;
+        long = omega (arith, length-set cut (i - 1) cur);
+        kept = length-set cut (i - 1) cur ∙ g.kept;
+        sums_long = let l = g.sums_long in omega (arith, length-set sums (i - 1) v);
+        sums_kept = length-set sums (i - 1) v ∙ g.sums_kept;
+      }
+    where
+      stored : (k : ℕ) → i - 1 ≤ k → k < n → cur ≡ last_with a (i - 1) h (front a key g.rs) → get_or (set cut (i - 1) cur) k 0 ≡ last_with a k h (front a key g.rs)
+      stored k low high here =
+          eq_or_ne k (i - 1)
+          (λ same. rw same (get_or-set_same cut (i - 1) cur 0 (let l = g.long in let x = g.inside in let y = g.all in omega arith) ∙ here))
+          (λ other. get_or-set_other cut (i - 1) k cur 0 other ∙ g.done k (omega arith) high)
+
+      stored_sum : (k : ℕ) → i - 1 ≤ k → k < n → cur ≡ last_with a (i - 1) h (front a key g.rs) → get_or (set sums (i - 1) v) k 0 ≡ adjust a (last_with a k h (front a key g.rs)) k
+      stored_sum k low high here =
+          eq_or_ne k (i - 1)
+          (λ same. rw same (get_or-set_same sums (i - 1) v 0 (let l = g.sums_long in let x = g.inside in let y = g.all in omega arith) ∙ v_is ∙ ap (λ (x : ℕ). adjust a x (i - 1)) here))
+          (λ other. get_or-set_other sums (i - 1) k v 0 other ∙ g.sums_done k (omega arith) high)
+
+  pub going_less : passes a nxt key ≡ true → i + count 512 a (forward a nxt 0) < i + count 512 a (forward a cur 0)
+  going_less p =
+      let yes_pass = passes_yes a nxt key p in
+      let s = yes_pass.0 in
+      let j = step s in
+      let r = rest s in
+      let few = g.few in
+      let long : length g.post ≡ length j.before + suc (length j.after) = ap length (split s) ∙ length-append j.before (nxt ∷ j.after) in
+      let x = g.high in
+      let now_left = count_is 512 a g.post (forward a cur 0) g.chain (g.links.at 0 (omega arith)) few in
+      let then_left = count_is 512 a j.after (forward a nxt 0) r.1 (r.0.links.at 0 r.0.low) (omega arith) in
+      omega arith
+
+pub going_done : (a : List ℕ) (h key n : ℕ) (cut₀ sums₀ cut sums : List ℕ) (cur i : ℕ) → Going a h key n cut₀ sums₀ cut sums cur i → i ≤ 0 → (rs : List ℕ) → Searchable a h rs → CutAt a h key n rs cut sums
+going_done a h key n cut₀ sums₀ cut sums cur i g z rs s =
+    let same : g.rs ≡ rs = one_list a h g.rs rs g.list.linked s.linked in
     record {
       long = g.long;
-      sums_long = g.adjusts_long;
-      at = λ k e. g.done rs s k (omega arith) e;
-      sums_at = λ k e. g.adjusts_done rs s k (omega arith) e;
+      sums_long = g.sums_long;
+      at = λ k e. g.done k (omega arith) e ∙ ap (λ (l : List ℕ). last_with a k h (front a key l)) same;
+      sums_at = λ k e.
+          g.sums_done k (omega arith) e ∙ ap (λ (l : List ℕ). adjust a (last_with a k h (front a key l)) k) same;
     }
 
 -- The test of the search: record 0, which stands for none, is below the key as its m is.

@@ -18,15 +18,16 @@ pub fn settle(arena: &mut [u32], rest: &Rest, cut: &Cut, q: u32, ends: &Ends)
     requires { (lasts : List ℕ) × (front : List ℕ) × (back : List ℕ) × Ready arena.old rest.now.head cut.now.links cut.now.lasts front back × Cached arena.old rest.now.head lasts rest.now.sums ends.now.sums }
     ensures { (lasts front back : List ℕ) → Ready arena.old rest.now.head cut.now.links cut.now.lasts front back → Cached arena.old rest.now.head lasts rest.now.sums ends.now.sums → Settled arena.old arena.new rest.now.head q lasts front }
 {
+    let head = rest.head;
     let top = cut.links - 1;
     let mut stop = get(arena, cut.lasts[top], FORWARD + top) as usize;
     for k in (1..cut.links).rev() {
-        let first = get(arena, rest.head, FORWARD + k) as usize;
+        let first = get(arena, head, FORWARD + k) as usize;
         let carry = lift(q, rest, ends, k + 1);
         raise_chain(arena, first, stop, k, carry);
         stop = first;
     }
-    let first = get(arena, rest.head, FORWARD) as usize;
+    let first = get(arena, head, FORWARD) as usize;
     let carry = lift(q, rest, ends, 1);
     raise_lowest(arena, first, stop, carry);
 }

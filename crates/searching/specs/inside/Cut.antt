@@ -3,7 +3,7 @@ use Rattle.std.specs.Prelude.{◌≡◌, ℕ, ◌<◌, ◌≤◌, Bool, cond, �
 use Rattle.checks.specs.Limits.{most_sizes}
 use Rattle.arena.specs.Arena.{level, m_word, adjust}
 use Rattle.arena.specs.Lazy.{next_with, last_with}
-use Rattle.arena.specs.inside.Chain.{Has, All, Links, Chain, Linked}
+use Rattle.arena.specs.inside.Chain.{Has, All, Linked}
 
 -- The first records of rs, up to the first whose m is below the key.
 unfoldable pub front : List ℕ → ℕ → List ℕ → List ℕ
@@ -40,17 +40,6 @@ pub record CutAt (a : List ℕ) (h key n : ℕ) (rs cut sums : List ℕ) : Type 
   pub sums_long : 8 ≤ length sums
   pub at : (k : ℕ) → k < n → slice_index cut k ≡ last_with a k h (front a key rs)
   pub sums_at : (k : ℕ) → k < n → slice_index sums k ≡ adjust a (last_with a k h (front a key rs)) k
-
--- On the way along the list rs of the head h, at a record or the head, cur, which leads on to the records post: for each link below i the last record with it in front is the last one of post that is, or else cur.
-pub record Along (a : List ℕ) (h key i : ℕ) (rs : List ℕ) (cur : ℕ) : Type 0 where
-  pub post : List ℕ
-  pub high : i ≤ level a cur
-  pub has : Has a cur
-  pub links : Links a cur post
-  pub chain : Chain a post
-  pub falling : Falling a post
-  pub few : length post ≤ most_sizes
-  pub same : (k : ℕ) → k < i → last_with a k h (front a key rs) ≡ last_with a k cur (front a key post)
 
 -- Whether r is a record, and its m is at least the key.
 unfoldable pub passes : List ℕ → ℕ → ℕ → Bool
