@@ -12,7 +12,6 @@ use Rattle.entries.specs.Entry.{State}
 use Rattle.entries.specs.inside.Tracking.{flat}
 use Rattle.entries.specs.inside.Kinds.{Cut}
 use Rattle.entries.proofs.Took.{state, Reads}
-use Rattle.facefile.specs.inside.Walk.{JoinBy}
 use Rattle.written.specs.EntriesOf.{entries_of}
 use Rattle.written.proofs.Written.{join_written, reads_written}
 use Rattle.text.specs.inside.Appending.{Appended}
@@ -77,53 +76,55 @@ pub record Left (rules : Rules) (face : Tree) (stack : List Tree) : Type 0 where
   pub last : ℕ
   pub reads : Reads rules count (state rest stack gauges) (state [] (face ∷ []) last)
 
--- A walk by W, over bytes or over words, stands at a place with the parts of the stack, and these are coded.
-pub record Coding (W : Tree → ℕ → List Tree → Type 0) (code : List Item → List ℕ) (old : List ℕ) (start : ℕ) (text : List ℕ) (at next : ℕ) : Type 0 where
-  pub face : Tree
-  pub stack : List Tree
-  pub walk : W face at stack
-  pub room : start + length (entries_of code face) ≤ length old
-  pub coded : Coded code old start stack text next
+-- A walk by W, over bytes or over words, stands at a place with the parts of the stack, and these are coded. A place is a number or what is left from it on.
+module _ {P : Type 0} where
+  pub record Coding (W : Tree → P → List Tree → Type 0) (code : List Item → List ℕ) (old : List ℕ) (start : ℕ) (text : List ℕ) (at : P) (next : ℕ) : Type 0 where
+    pub face : Tree
+    pub stack : List Tree
+    pub walk : W face at stack
+    pub room : start + length (entries_of code face) ≤ length old
+    pub coded : Coded code old start stack text next
 
-module _ (W : Tree → ℕ → List Tree → Type 0) (code : List Item → List ℕ) (old : List ℕ) (start : ℕ) where
-  pub coding_start : (face : Tree) (at : ℕ) → W face at [] → start + length (entries_of code face) ≤ length old → Coding W code old start old at start
-  coding_start face at w room =
-      record { face = face; stack = []; walk = w; room = room; coded = coded_start code old start }
+  module _ (W : Tree → P → List Tree → Type 0) (code : List Item → List ℕ) (old : List ℕ) (start : ℕ) where
+    pub coding_start : (face : Tree) (at : P) → W face at [] → start + length (entries_of code face) ≤ length old → Coding W code old start old at start
+    coding_start face at w room =
+        record { face = face; stack = []; walk = w; room = room; coded = coded_start code old start }
 
-  module _ (text : List ℕ) (at next : ℕ) (p : Coding W code old start text at next) where
-    pub coding_long : length text ≡ length old
-    coding_long = appended_length p.coded
+    module _ (text : List ℕ) (at : P) (next : ℕ) (p : Coding W code old start text at next) where
+      pub coding_long : length text ≡ length old
+      coding_long = appended_length p.coded
 
-    pub coding_end : p.stack ≡ p.face ∷ [] → Appended old start (entries_of code p.face) text next
-    coding_end whole = coded_end code old start p.stack text next p.face p.coded whole
+      pub coding_end : p.stack ≡ p.face ∷ [] → Appended old start (entries_of code p.face) text next
+      coding_end whole = coded_end code old start p.stack text next p.face p.coded whole
 
-    -- A gauge, behind which the walk goes on.
-    pub coding_gauge : (z : List Item) (behind : ℕ) → W p.face behind (gauge z ∷ p.stack) → (new : List ℕ) (r : ℕ) → Appended text next (entries_of code (gauge z)) new r → Coding W code old start new behind r
-    coding_gauge z behind w new r a =
-        record {
-          face = p.face;
-          stack = gauge z ∷ p.stack;
-          walk = w;
-          room = p.room;
-          coded = coded_gauge code old start p.stack text next p.coded z new r a;
-        }
+      -- A gauge, behind which the walk goes on.
+      pub coding_gauge : (z : List Item) (behind : P) → W p.face behind (gauge z ∷ p.stack) → (new : List ℕ) (r : ℕ) → Appended text next (entries_of code (gauge z)) new r → Coding W code old start new behind r
+      coding_gauge z behind w new r a =
+          record {
+            face = p.face;
+            stack = gauge z ∷ p.stack;
+            walk = w;
+            room = p.room;
+            coded = coded_gauge code old start p.stack text next p.coded z new r a;
+          }
 
-    pub coding_join : (kind behind : ℕ) → JoinBy (W p.face) at p.stack kind behind → Coding W code old start (set text next kind) behind (next + 1)
-    coding_join kind behind j =
-        record {
-          face = p.face;
-          stack = j.cut j.older j.newer ∷ j.rest;
-          walk = j.walk;
-          room = p.room;
-          coded = coded_join code old start p.stack text next p.coded kind j.cut j.older j.newer j.rest j.is_cut j.two;
-        }
-
-    -- Both have their room.
-    module _ (rules : Rules) where
-      pub coding_gauge_room : (z : List Item) → Left rules p.face (gauge z ∷ p.stack) → next + length (entries_of code (gauge z)) ≤ length text
-      coding_gauge_room z left =
+      -- It has its room.
+      pub coding_gauge_room : (rules : Rules) (z : List Item) → Left rules p.face (gauge z ∷ p.stack) → next + length (entries_of code (gauge z)) ≤ length text
+      coding_gauge_room rules z left =
           gauge_room code old start p.stack text next p.coded rules left.count left.rest left.gauges p.face left.last p.room z left.reads
 
-      pub coding_join_room : (kind behind : ℕ) (j : JoinBy (W p.face) at p.stack kind behind) → Left rules p.face (j.cut j.older j.newer ∷ j.rest) → next < length text
-      coding_join_room kind behind j left =
-          join_room code old start p.stack text next p.coded rules left.count left.rest left.gauges p.face left.last p.room kind j.cut j.older j.newer j.rest j.is_cut j.two left.reads
+      -- A join of the two newest parts, and its room.
+      module _ (kind : ℕ) (cut : Tree → Tree → Tree) (older newer : Tree) (parts : List Tree) (is_cut : Cut kind cut) (two : p.stack ≡ newer ∷ older ∷ parts) where
+        pub coding_join : (behind : P) → W p.face behind (cut older newer ∷ parts) → Coding W code old start (set text next kind) behind (next + 1)
+        coding_join behind w =
+            record {
+              face = p.face;
+              stack = cut older newer ∷ parts;
+              walk = w;
+              room = p.room;
+              coded = coded_join code old start p.stack text next p.coded kind cut older newer parts is_cut two;
+            }
+
+        pub coding_join_room : (rules : Rules) → Left rules p.face (cut older newer ∷ parts) → next < length text
+        coding_join_room rules left =
+            join_room code old start p.stack text next p.coded rules left.count left.rest left.gauges p.face left.last p.room kind cut older newer parts is_cut two left.reads

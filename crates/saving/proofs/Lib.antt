@@ -1,3 +1,4 @@
+pub mod KindTags
 pub mod Coding
 pub mod WordEntries
 pub mod FileEntries

@@ -79,7 +79,7 @@ module _ (old : List ℕ) (start : ℕ) (words : List ℕ) where
 
         pub writing_room : next < length text
         writing_room =
-            coding_join_room (WordWalk words) size_bytes old start text at next p word_rules kind behind join
+            coding_join_room (WordWalk words) size_bytes old start text at next p kind join.cut join.older join.newer join.rest join.is_cut join.two word_rules
             (left_of words p.face behind (join.cut join.older join.newer ∷ join.rest) join.walk)
 
         -- So the place is below a bound that the output had before the loop.
@@ -93,7 +93,8 @@ module _ (old : List ℕ) (start : ℕ) (words : List ℕ) where
         join_less more = let further = join.further in omega arith
 
         pub writing_join : Writing old start words (set text next kind) behind (next + 1)
-        writing_join = coding_join (WordWalk words) size_bytes old start text at next p kind behind join
+        writing_join =
+            coding_join (WordWalk words) size_bytes old start text at next p kind join.cut join.older join.newer join.rest join.is_cut join.two behind join.walk
 
     pub writing_end : length words ≤ at → (t : Tree) → words_face words ≡ taken t → Appended old start (entries_of size_bytes t) text next
     writing_end h t e =

@@ -12,7 +12,7 @@ ghost use Rattle.saving.specs.inside.Answers.{worded_as};
 
 use crate::Worded;
 use checks::Check;
-use facefile::walk::{Entry, FIRST_ENTRY, entry_at};
+use facefile::entry::{Entries, Entry};
 use facefile::{Counts, reader};
 use gauges::put_gauge;
 
@@ -30,20 +30,13 @@ fn put_entries(output: &mut [u32], start: usize, file: &[u8]) -> usize
     requires { (t : Tree) × (face_of file.now ≡ taken t) × (start + length (entries_of list_words t) ≤ length output.old) }
     ensures { (t : Tree) → face_of file.now ≡ taken t → Appended output.old start (entries_of list_words t) output.new result }
 {
-    let mut at = FIRST_ENTRY;
     let mut next = start;
-    while at < file.len() {
-        match entry_at(file, at) {
-            Entry::Gauge(g) => {
-                let from = g.from;
-                let to = g.to;
-                next = put_gauge(output, next, &file[from..to], g.count);
-                at = g.next;
-            }
-            Entry::Join(kind, behind) => {
+    for entry in Entries::of(file) {
+        match entry {
+            Entry::Gauge(sizes) => next = put_gauge(output, next, sizes, sizes.len() / 4),
+            Entry::Join(kind) => {
                 output[next] = kind as u32;
                 next += 1;
-                at = behind;
             }
         }
     }
