@@ -1,104 +1,93 @@
--- What the loop over the entries of taken words keeps: where the walk stands, and that the bytes of the parts on its stack are appended.
--- An entry appends its own bytes, which fit since the walk behind it still reads a face that fits; at the end the stack is the face.
+-- What the loop over the entries of taken words keeps: what is left of them, and that the bytes of the parts on its stack are appended.
+-- An entry appends its own bytes, which fit since what is left behind it still gives a face that fits; at the end the stack is the face.
 use mathlib.Core.Path.{◌≡◌, sym, subst, ◌∙◌}
 use mathlib.Core.List.{List, ◌∷◌}
-use Prim.Native.Nat.{ℕ, ◌+◌, ◌-◌, ◌*◌, ◌≤◌, ◌<◌}
+use Prim.Native.Nat.{ℕ, ◌+◌, ◌*◌, ◌≤◌, ◌<◌}
 use native.Mathlib.Omega.{arith}
-use lib.ListN.{length, take, drop, set}
+use lib.ListN.{length, drop, set}
+use Rattle.std.specs.Prelude.{Option, Some, None}
+use Rattle.std.specs.Borrow.{Bor}
 use Rattle.checks.specs.Answer.{taken}
 use Rattle.checks.proofs.Answers.{same_taken}
 use Rattle.slicing.specs.Item.{Item}
 use Rattle.slicing.specs.Tree.{Tree, gauge}
+use Rattle.entries.specs.inside.Kinds.{byte_of}
+use Rattle.entries.specs.declared.kinds.Kind.{Kind}
 use Rattle.facefile.specs.Gauge.{size_bytes}
-use Rattle.facefile.specs.declared.walk.GaugeEntry.{GaugeEntry}
-use Rattle.facefile.specs.declared.walk.Entry.{Entry}
-use Rattle.facefile.specs.declared.walk.Entry.TheVariants.{Gauge, Join}
-use Rattle.facefile.specs.inside.Walk.{JoinBy}
+use Rattle.facefile.specs.inside.Entries.{JoinNext}
+use Rattle.facefile.proofs.EntryWalk.{run_reads, run_end}
 use Rattle.written.specs.EntriesOf.{entries_of}
 use Rattle.written.proofs.FileOf.{bytes_long}
-use Rattle.facewords.specs.Words.{word_rules, words_face}
-use Rattle.facewords.specs.inside.WordWalk.{WordWalk, GaugeWordsAt, WordFinds}
-use Rattle.facewords.proofs.WordSteps.{walk_start, walk_reads, walk_end, found_gauge, found_join}
+use Rattle.facewords.specs.Words.{word_rules, words_start, words_face}
+use Rattle.facewords.specs.declared.entry.Entry.{Entry}
+use Rattle.facewords.specs.declared.entry.Entry.TheVariants.{Gauge, Join}
+use Rattle.facewords.specs.declared.entry.Entries.{Entries}
+use Rattle.facewords.specs.inside.Entries.{WordRun, GaugeNext}
+use Rattle.facewords.specs.inside.Entries.Gives.{Gives}
+use Rattle.facewords.proofs.EntryRun.{run_start, came_none, came_gauge, came_join}
 use Rattle.text.specs.inside.Appending.{Appended}
 use Rattle.gauges.specs.inside.GaugeWords.{GaugeWords}
 use Rattle.gauges.proofs.FileBytes.{gauge_words}
 use Rattle.saving.proofs.Coding.{Left, Coding, coding_start, coding_long, coding_end, coding_gauge, coding_join, coding_gauge_room, coding_join_room}
 
-left_of : (words : List ℕ) (face : Tree) (at : ℕ) (stack : List Tree) → WordWalk words face at stack → Left word_rules face stack
-left_of words face at stack w =
-    let left = walk_reads words face at stack w in
-    record { count = w.left; rest = drop at words; gauges = w.gauges; last = left.0; reads = left.1 }
+left_of : (words : List ℕ) (face : Tree) (rest : List ℕ) (stack : List Tree) → WordRun words face rest stack → Left word_rules face stack
+left_of words face rest stack w =
+    let left = run_reads (words_face words) word_rules (words_start words) face rest stack w in
+    record { count = w.left; rest = rest; gauges = w.gauges; last = left.0; reads = left.1 }
 
-abbrev pub Writing : List ℕ → ℕ → List ℕ → List ℕ → ℕ → ℕ → Type 0
-Writing old start words text at next = Coding (WordWalk words) size_bytes old start text at next
+abbrev pub Writing : List ℕ → ℕ → List ℕ → List ℕ → List ℕ → ℕ → Type 0
+Writing old begin words text rest next = Coding (WordRun words) size_bytes old begin text rest next
 
-module _ (old : List ℕ) (start : ℕ) (words : List ℕ) where
-  pub writing_start : (t : Tree) × (words_face words ≡ taken t) × (start + length (entries_of size_bytes t) ≤ length old) → Writing old start words old 1 start
-  writing_start t = coding_start (WordWalk words) size_bytes old start t.0 1 (walk_start words t.0 t.1) t.2
+module _ (old : List ℕ) (begin : ℕ) (words : List ℕ) where
+  pub writing_start : (of it : Entries) → (t : Tree) × (words_face words ≡ taken t) × (begin + length (entries_of size_bytes t) ≤ length old) → of.rest.now ≡ drop 1 words → it ≡ of → Writing old begin words old it.rest.now begin
+  writing_start of it t r same =
+      rw (same, r) (coding_start (WordRun words) size_bytes old begin t.0 (drop 1 words) (run_start words t.0 t.1) t.2)
 
-  module _ (text : List ℕ) (at next : ℕ) (p : Writing old start words text at next) where
-    -- With the entry that was found.
-    module _ (r : Entry) (found : WordFinds words at r) where
-      module _ (g : GaugeEntry) (e : r ≡ Gauge g) where
-        here : GaugeWordsAt words p.face at p.stack g
-        here = found_gauge words p.face at p.stack p.walk r found g e
+  module _ (text : List ℕ) (next : ℕ) (s u : Entries) (p : Writing old begin words text s.rest.now next) where
+    module _ (r : Entry) (came : Gives s (Some r) u) where
+      module _ (sizes : Bor (List ℕ)) (e : r ≡ Gauge sizes) where
+        here : GaugeNext words p.face p.stack sizes.now u.rest.now
+        here = came_gauge words p.face p.stack s u p.walk r came sizes e
 
-        pub writing_upward : g.from ≤ g.to
-        writing_upward = here.upward
-
-        pub writing_inside : g.to ≤ length words
-        writing_inside = here.inside
-
-        pub writing_from : g.from ≤ length words
-        writing_from = let inside = here.inside in let upward = here.upward in omega arith
-
-        abbrev stretch : List ℕ
-        stretch = take (g.to - g.from) (drop g.from words)
-
-        words_here : GaugeWords stretch here.sizes
+        words_here : GaugeWords sizes.now here.items
         words_here = record { good = here.good; same = here.same }
 
-        pub writing_fits : ((z : List Item) × GaugeWords (take (g.to - g.from) (drop g.from words)) z) × (next + 2 + 2 * length (take (g.to - g.from) (drop g.from words)) ≤ length text)
+        pub writing_fits : ((z : List Item) × GaugeWords sizes.now z) × (next + 2 + 2 * length sizes.now ≤ length text)
         writing_fits =
-            let behind = left_of words p.face g.next (gauge here.sizes ∷ p.stack) here.walk in
-            let fits = coding_gauge_room (WordWalk words) size_bytes old start text at next p word_rules here.sizes behind in
-            let count = gauge_words stretch here.sizes words_here in
-            let bytes = bytes_long here.sizes in
-            ((here.sizes, words_here), omega arith)
+            let behind = left_of words p.face u.rest.now (gauge here.items ∷ p.stack) here.walk in
+            let fits = coding_gauge_room (WordRun words) size_bytes old begin text s.rest.now next p word_rules here.items behind in
+            let count = gauge_words sizes.now here.items words_here in
+            let bytes = bytes_long here.items in
+            ((here.items, words_here), omega arith)
 
-        pub writing_less : at < length words → length words - g.next < length words - at
-        writing_less more = let further = here.further in omega arith
-
-        pub writing_gauge : (new : List ℕ) (further : ℕ) → ((z : List Item) → GaugeWords (take (g.to - g.from) (drop g.from words)) z → Appended text next (entries_of size_bytes (gauge z)) new further) → Writing old start words new g.next further
+        pub writing_gauge : (new : List ℕ) (further : ℕ) → ((z : List Item) → GaugeWords sizes.now z → Appended text next (entries_of size_bytes (gauge z)) new further) → Writing old begin words new u.rest.now further
         writing_gauge new further put =
-            coding_gauge (WordWalk words) size_bytes old start text at next p here.sizes g.next here.walk new further (put here.sizes words_here)
+            coding_gauge (WordRun words) size_bytes old begin text s.rest.now next p here.items u.rest.now here.walk new further (put here.items words_here)
 
-      module _ (kind behind : ℕ) (e : r ≡ Join kind behind) where
-        join : JoinBy (WordWalk words p.face) at p.stack kind behind
-        join = found_join words p.face at p.stack p.walk r found kind behind e
+      module _ (kind : Kind) (e : r ≡ Join kind) where
+        join : JoinNext (WordRun words p.face) p.stack s.rest.now kind u.rest.now
+        join = came_join words p.face p.stack s u p.walk r came kind e
 
         pub writing_room : next < length text
         writing_room =
-            coding_join_room (WordWalk words) size_bytes old start text at next p kind join.cut join.older join.newer join.rest join.is_cut join.two word_rules
-            (left_of words p.face behind (join.cut join.older join.newer ∷ join.rest) join.walk)
+            coding_join_room (WordRun words) size_bytes old begin text s.rest.now next p (byte_of kind) join.cut join.older join.newer join.below join.is_cut join.two word_rules
+            (left_of words p.face u.rest.now (join.cut join.older join.newer ∷ join.below) join.walk)
 
         -- So the place is below a bound that the output had before the loop.
         pub writing_below : next < length old
         writing_below =
             let room = writing_room in
-            let long = coding_long (WordWalk words) size_bytes old start text at next p in
+            let long = coding_long (WordRun words) size_bytes old begin text s.rest.now next p in
             omega arith
 
-        pub join_less : at < length words → length words - behind < length words - at
-        join_less more = let further = join.further in omega arith
-
-        pub writing_join : Writing old start words (set text next kind) behind (next + 1)
+        pub writing_join : Writing old begin words (set text next (byte_of kind)) u.rest.now (next + 1)
         writing_join =
-            coding_join (WordWalk words) size_bytes old start text at next p kind join.cut join.older join.newer join.rest join.is_cut join.two behind join.walk
+            coding_join (WordRun words) size_bytes old begin text s.rest.now next p (byte_of kind) join.cut join.older join.newer join.below join.is_cut join.two u.rest.now join.walk
 
-    pub writing_end : length words ≤ at → (t : Tree) → words_face words ≡ taken t → Appended old start (entries_of size_bytes t) text next
-    writing_end h t e =
-        let whole = walk_end words p.face at p.stack p.walk h in
-        let same = same_taken p.face t (sym p.walk.taken_words ∙ e) in
-        subst (λ (u : Tree). Appended old start (entries_of size_bytes u) text next) same
-        (coding_end (WordWalk words) size_bytes old start text at next p whole)
+    pub writing_end : (r : Option Entry) → r ≡ None → Gives s r u → (t : Tree) → words_face words ≡ taken t → Appended old begin (entries_of size_bytes t) text next
+    writing_end r e came t is =
+        let over = came_none words p.face p.stack s u p.walk r e came in
+        let whole = run_end (words_face words) word_rules (words_start words) p.face s.rest.now p.stack p.walk over in
+        let same = same_taken p.face t (sym p.walk.means ∙ is) in
+        subst (λ (x : Tree). Appended old begin (entries_of size_bytes x) text next) same
+        (coding_end (WordRun words) size_bytes old begin text s.rest.now next p whole)

@@ -13,8 +13,7 @@ ghost use Rattle.saving.specs.inside.Answers.{saved_as};
 use crate::Saved;
 use checks::Check;
 use facefile::Counts;
-use facefile::walk::Entry;
-use facewords::walk::{FIRST_ENTRY, entry_at};
+use facewords::entry::{Entries, Entry};
 use gauges::{write_gauge, write_header};
 
 // The length of the file of a face of so many gauges and sizes: 7 bytes, one for each of 2g - 1 entries, one more for each
@@ -31,20 +30,13 @@ fn write_entries(output: &mut [u8], start: usize, words: &[u32]) -> usize
     requires { (t : Tree) × (words_face words.now ≡ taken t) × (start + length (entries_of size_bytes t) ≤ length output.old) }
     ensures { (t : Tree) → words_face words.now ≡ taken t → Appended output.old start (entries_of size_bytes t) output.new result }
 {
-    let mut at = FIRST_ENTRY;
     let mut next = start;
-    while at < words.len() {
-        match entry_at(words, at) {
-            Entry::Gauge(g) => {
-                let from = g.from;
-                let to = g.to;
-                next = write_gauge(output, next, &words[from..to]);
-                at = g.next;
-            }
-            Entry::Join(kind, behind) => {
-                output[next] = kind;
+    for entry in Entries::of(words) {
+        match entry {
+            Entry::Gauge(sizes) => next = write_gauge(output, next, sizes),
+            Entry::Join(kind) => {
+                output[next] = kind as u8;
                 next += 1;
-                at = behind;
             }
         }
     }
