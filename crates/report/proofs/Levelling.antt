@@ -12,7 +12,7 @@ use Rattle.slicing.proofs.Counts.{counted}
 use Rattle.facefile.specs.Format.{face_of}
 use Rattle.facefile.proofs.Taken.{face_taken}
 use Rattle.levels.specs.Levels.{top_level, levels_of}
-use Rattle.levels.specs.inside.Taken.{OwnLevels}
+use Rattle.levels.specs.inside.Taken.{Fillable, OwnLevels}
 use Rattle.levels.proofs.Sequence.{length_levels}
 use Rattle.levels.proofs.Range.{top_least, top_most, level_fits}
 use Rattle.shapes.specs.inside.Taken.{Writable}
@@ -34,6 +34,9 @@ own_range t few i less =
     level_fits (top_level (size_count t) (least_depth t) (most_depth t)) 1 (size_count t) i (top_least (size_count t) (least_depth t) (most_depth t)) (top_most (size_count t) (least_depth t) (most_depth t) few) (omega arith)
 
 module _ (file : List ℕ) (gauges sizes : ℕ) (k : Tallied file gauges sizes) where
+  pub fillable : Fillable file sizes
+  fillable = record { tree = k.tree; face = k.face; as_many = k.sizes_is }
+
   pub levelled : (new : List ℕ) → OwnLevels file new → Levelled file new gauges
   unfolding OwnLevels
   levelled new is =

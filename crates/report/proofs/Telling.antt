@@ -6,29 +6,34 @@ use Prim.Native.Nat.{ℕ, ◌*◌, ◌≤◌}
 use native.Mathlib.Omega.{arith}
 use lib.ListN.{length, take, length-take}
 use lib.Seq.{length-take-le}
+use Rattle.std.specs.Prelude.{Err}
 use Rattle.text.specs.Printing.{Printed}
+use Rattle.checks.specs.Check.{number_of}
+use Rattle.checks.specs.declared.Check.{Check}
+use Rattle.checks.specs.Answer.{Answer, refused, taken}
+use Rattle.checks.proofs.Answers.{number_positive}
 use Rattle.slicing.specs.Item.{Item}
 use Rattle.slicing.specs.Tree.{Tree, gauge_count}
 use Rattle.slicing.specs.Shapes.{shapes}
 use Rattle.slicing.specs.Fit.{Pick, nothing, picked, smallest, place, words}
 use Rattle.slicing.proofs.Placing.{words_length}
 use Rattle.slicing.proofs.ShapeLaws.{shapes_short}
-use Rattle.facefile.specs.declared.Face.{Face}
+use Rattle.facefile.specs.declared.Counts.{Counts as Counted}
 use Rattle.facefile.specs.Format.{face_of}
-use Rattle.facefile.specs.Summary.{summary}
-use Rattle.facefile.proofs.Answered.{answer_taken, answer_refused}
+use Rattle.facefile.specs.Summary.{counted}
 use Rattle.facefile.proofs.Taken.{face_taken}
 use Rattle.lent.proofs.Starts.{starts}
 use Rattle.writing.specs.Words.{list_words}
 use Rattle.shapes.specs.inside.Taken.{Wrote, WroteFace}
 use Rattle.writing.proofs.WordLaws.{words_length as list_words_length}
 use Rattle.placing.specs.declared.Fitted.{Fitted}
-use Rattle.placing.specs.Found.{face_found, face_words}
+use Rattle.lent.proofs.Calling.{face_counted, face_refused}
+use Rattle.placing.specs.Found.{fitted_as, face_found, face_words}
 use Rattle.placing.specs.inside.Facing.{PlacedFace, PlacedIn}
 use Rattle.rendering.specs.Text.{faces_text, refused_text}
 use Rattle.rendering.specs.Room.{text_bytes}
 use Rattle.report.specs.Faces.{widest, pick_printed, faces_printed}
-use Rattle.report.specs.inside.Telling.{Tallied, Levelled, Worked}
+use Rattle.report.specs.inside.Telling.{Tallied, Levelled, Worked, Told}
 use Rattle.report.proofs.Levelling.{sizes_most}
 
 other_text : (a b old new : List ℕ) (r : ℕ) → a ≡ b → Printed a old new r → Printed b old new r
@@ -54,10 +59,6 @@ module _ (t : Tree) (face : Fitted) (items layout old new : List ℕ) (r : ℕ) 
       (render (shapes 0 t) z i (ap (λ (f : Fitted). f.height) e) (ap (λ (f : Fitted). f.width) e) (ap (λ (f : Fitted). f.area) e))
 
 module _ (face : Fitted) (count : ℕ) (items : List ℕ) (gauges : ℕ) (layout old new : List ℕ) (r : ℕ) where
-  pub told_no : (face.number ≡ 0 → ⊥) → Printed (refused_text face.number) old new r → (t : Tree) → Worked t face count items gauges layout → Printed (pick_printed t (smallest widest (shapes 0 t))) old new r
-  told_no other p t w =
-      other_text (refused_text face.number) (pick_printed t (smallest widest (shapes 0 t))) old new r (no_text t (smallest widest (shapes 0 t)) face w.fitted_is other) p
-
   pub told_yes : face.number ≡ 0 → Renders face (take (2 * count) items) (take (5 * gauges) layout) old new r → (t : Tree) → Worked t face count items gauges layout → Printed (pick_printed t (smallest widest (shapes 0 t))) old new r
   told_yes zero render t w =
       placed t face (take (2 * count) items) (take (5 * gauges) layout) old new r (smallest widest (shapes 0 t)) w.fitted_is zero w.listed w.laid render
@@ -86,7 +87,7 @@ module _ (file levels : List ℕ) (gauges : ℕ) (arena items items' layout layo
     unfolding PlacedIn
     face_placed = c.placed_in t c.ready.tallied.face
 
-    -- What `told_text` asks.
+    -- What `render` asks.
     pub told_asked : (text : List ℕ) → 898 ≡ length items' → 320 ≡ length layout' → text_bytes ≤ length text → ((2 * count ≤ length items') × (length items' ≤ 2 * 449)) × ((5 * gauges ≤ length layout') × (length layout' ≤ 5 * 64) × (text_bytes ≤ length text))
     told_asked text items_same layout_same room =
         let most = sizes_most file t c.ready.tallied.face in
@@ -112,19 +113,39 @@ module _ (file levels : List ℕ) (gauges : ℕ) (arena items items' layout layo
     placed_text old new r p =
         other_text (pick_printed t (smallest widest (shapes 0 t))) (faces_printed (face_of file)) old new r (sym (ap faces_printed c.ready.tallied.face)) (p t worked)
 
+-- No face is inside the opening.
+module _ (file levels : List ℕ) (gauges : ℕ) (k : Levelled file levels gauges) where
+  pub placed_none : (c : Check) (layout layout' : List ℕ) → PlacedIn file 0 widest (fitted_as (Err c)) layout layout' → (most : ℕ) (text : List ℕ) → Told most (faces_printed (face_of file)) text (Err c) text
+  unfolding faces_printed PlacedIn
+  placed_none c layout layout' placed most text =
+      let t = k.tallied.tree in
+      let some = number_positive c in
+      let other : number_of c ≡ 0 → ⊥ = λ e. omega arith in
+      let answer = (placed t k.tallied.face).answer in
+      (ap faces_printed k.tallied.face ∙ sym (no_text t (smallest widest (shapes 0 t)) (fitted_as (Err c)) answer other), refl)
+
 -- The whole file.
-module _ (file : List ℕ) (f : Face) (read : f ≡ summary (face_of file)) where
-  pub text_refused : (f.number ≡ 0 → ⊥) → (old new : List ℕ) (r : ℕ) → Printed (refused_text f.number) old new r → Printed (faces_printed (face_of file)) old new r
+module _ (file : List ℕ) where
+  pub told_refused : (c : Check) → ◌≡◌ {A = Answer Counted} (refused c) (counted (face_of file)) → (most : ℕ) (text : List ℕ) → Told most (faces_printed (face_of file)) text (Err c) text
   unfolding faces_printed
-  text_refused other old new r p =
-      let bad = answer_refused f (face_of file) read other in
-      other_text (refused_text f.number) (faces_printed (face_of file)) old new r (ap refused_text bad.2 ∙ sym (ap faces_printed bad.1)) p
+  told_refused c e most text = (ap faces_printed (face_refused c (face_of file) e), refl)
 
   -- The levels buffer is lent as many bytes.
-  pub tallied_part : f.number ≡ 0 → (n : ℕ) → f.sizes ≡ n → Tallied file f.gauges n
-  tallied_part zero n e =
-      let face = answer_taken f (face_of file) read zero in
-      record { tree = face.tree; face = face.face; gauges_is = face.gauges; sizes_is = sym e ∙ face.sizes }
+  pub tallied_part : (n : Counted) → taken n ≡ counted (face_of file) → (k : ℕ) → n.sizes ≡ k → Tallied file n.gauges k
+  tallied_part n read k e =
+      let face = face_counted n (face_of file) read in
+      record {
+        tree = face.tree;
+        face = face.face;
+        gauges_is = ap (λ (m : Counted). m.gauges) face.counts;
+        sizes_is = sym e ∙ ap (λ (m : Counted). m.sizes) face.counts;
+      }
+
+-- The line of the check goes where there is no text.
+pub line_told : (most : ℕ) (text old mid : List ℕ) (c : Check) → Told most text old (Err c) mid → (n : ℕ) → n ≡ number_of c → (new : List ℕ) (r : ℕ) → Printed (refused_text n) mid new r → Printed text old new r
+line_told most text old mid c t n same new r p =
+    subst (λ (b : List ℕ). Printed text b new r) t.1
+    (subst (λ (b : List ℕ). Printed b mid new r) (ap refused_text same ∙ sym t.0) p)
 
 -- As many words or bytes as a part is to have.
 pub part_counted : (k : ℕ) (l : List ℕ) → k ≤ length l → k ≡ length (take k l)

@@ -1,10 +1,10 @@
 -- `report::faces_text` meets its contract.
--- A short buffer is left, a refused file has the line of its check, and a taken one the text of its face.
+-- A short buffer is left; in another the text is told, or the line of the check that refuses it is written.
 use mathlib.Core.Path.{refl}
 use native.Mathlib.Omega.{arith}
-use Rattle.lent.proofs.Calling.{read_few}
 use Rattle.text.proofs.Printings.{text_short, text_long}
-use Rattle.report.proofs.Telling.{text_refused, tallied_part, part_counted}
+use Rattle.rendering.specs.Room.{text_bytes}
+use Rattle.report.proofs.Telling.{line_told}
 use Rattle.report.proofs.face.faces_text.Goals as goal
 
 pub returns-then-text-lt-TEXT : goal.returns-then-text-lt-TEXT
@@ -14,34 +14,16 @@ returns-then-text-lt-TEXT c =
       counted = (omega arith, refl);
     }
 
-pub returns-then-face-ne-TAKEN : goal.returns-then-face-ne-TAKEN
-returns-then-face-ne-TAKEN c =
+pub returns-in-Ok : goal.returns-in-Ok
+returns-in-Ok c =
     record {
-      faces_text = text_long _ _ c.args.text.now _ _ c.if-text-lt-TEXT.false (text_refused c.args.file.now c.read-face.result c.read-face.ensures c.if-face-ne-TAKEN.true _ _ _ c.render_refused.ensures.printed);
+      faces_text = text_long _ _ c.args.text.now _ _ c.if-text-lt-TEXT.false c.in-Ok.ensures.0;
+      counted = c.in-Ok.ensures.1;
+    }
+
+pub returns-in-Err : goal.returns-in-Err
+returns-in-Err c =
+    record {
+      faces_text = text_long _ _ c.args.text.now _ _ c.if-text-lt-TEXT.false (line_told text_bytes _ _ _ _ c.in-Err.ensures _ c.number.ensures _ _ c.render_refused.ensures.printed);
       counted = (omega (arith, c.render_refused.ensures.counted.0), c.render_refused.ensures.counted.1);
-    }
-
-pub slice_bounds-levels-end : goal.slice_bounds-levels-end
-slice_bounds-levels-end c =
-    let few = read_few _ _ c.read-face.ensures c.if-face-ne-TAKEN.false in
-    omega (arith, c.levels_room-levels.ensures)
-
-pub slice_bounds-taken_text-end : goal.slice_bounds-taken_text-end
-slice_bounds-taken_text-end c =
-    let few = read_few _ _ c.read-face.ensures c.if-face-ne-TAKEN.false in
-    part_counted c.read-face.result.sizes c.levels_room-levels.result (omega (arith, c.levels_room-levels.ensures))
-
-pub taken_text-requires : goal.taken_text-requires
-taken_text-requires c =
-    let few = read_few _ _ c.read-face.ensures c.if-face-ne-TAKEN.false in
-    record {
-      tallied = tallied_part c.args.file.now c.read-face.result c.read-face.ensures c.if-face-ne-TAKEN.false _ (part_counted c.read-face.result.sizes c.levels_room-levels.result (omega (arith, c.levels_room-levels.ensures)));
-      text_long = c.if-text-lt-TEXT.false;
-    }
-
-pub returns : goal.returns
-returns c =
-    record {
-      faces_text = text_long _ _ c.args.text.now _ _ c.if-text-lt-TEXT.false c.taken_text.ensures.printed;
-      counted = c.taken_text.ensures.counted;
     }
