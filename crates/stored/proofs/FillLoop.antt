@@ -5,7 +5,7 @@ use mathlib.Core.Bool.{Bool, true}
 use mathlib.Core.List.{List, [], ◌∷◌}
 use Prim.Native.Nat.{ℕ, ◌+◌, ◌*◌, ◌-◌, ◌≤◌, ◌<◌}
 use native.Mathlib.Omega.{arith}
-use lib.ListN.{length, get_or, length-append}
+use lib.ListN.{length, get_or, drop, length-append}
 use Rattle.checks.specs.Limits.{buffer_words}
 use Rattle.checks.specs.Answer.{taken}
 use Rattle.slicing.specs.Item.{Item}
@@ -14,46 +14,52 @@ use Rattle.slicing.specs.Good.{Good}
 use Rattle.slicing.specs.Useful.{gauge_shapes}
 use Rattle.slicing.proofs.Counts.{gauges_joined, sizes_joined}
 use Rattle.slicing.proofs.Depths.{depth_few}
-use Rattle.facefile.specs.declared.walk.GaugeEntry.{GaugeEntry}
-use Rattle.facefile.specs.declared.walk.Entry.{Entry as FileEntry}
-use Rattle.facefile.specs.declared.walk.Entry.TheVariants.{Gauge, Join}
+use Rattle.std.specs.Prelude.{Option, Some, None}
+use Rattle.std.specs.Borrow.{Bor}
+use Rattle.facefile.specs.declared.entry.Entry.{Entry as FileEntry}
+use Rattle.facefile.specs.declared.entry.Entry.TheVariants.{Gauge, Join}
+use Rattle.facefile.specs.declared.entry.Entries.{Entries}
 use Rattle.sizes.specs.Rules.{asks_order}
 use Rattle.facefile.specs.Format.{rules_of, face_of}
 use Rattle.entries.specs.declared.kinds.Kind.{Kind}
 use Rattle.entries.specs.inside.Kinds.{byte_of, Cut, cut_beside, cut_stacked}
 use Rattle.sizes.specs.inside.Sizes.{sizes_in}
 use Rattle.entries.specs.inside.Tracking.{flat}
-use Rattle.facefile.specs.inside.Walk.{first_entry, Walk, size_bytes_of, GaugeAt, JoinAt, Finds}
+use Rattle.facefile.specs.inside.Entries.{Walk, count_of, GaugeNext, JoinNext}
+use Rattle.facefile.specs.inside.Entries.Gives.{Gives}
 use Rattle.sizes.proofs.SizesIn.{in_length}
 use Rattle.useful.specs.inside.Order.{GaugeBytes, order_word, counting_word}
 use Rattle.useful.proofs.FirstDigits.{first_word_is}
-use Rattle.facefile.proofs.WalkSteps.{walk_start, walk_end, found_gauge, found_join}
-use Rattle.facefile.proofs.WalkStack.{walk_good, walk_gauges, walk_face, join_good, join_gauges}
+use Rattle.facefile.proofs.EntryWalk.{walk_start, file_long}
+use Rattle.facefile.proofs.EntrySteps.{came_none, came_gauge, came_join}
+use Rattle.facefile.proofs.EntryStack.{walk_good, walk_gauges, walk_face, walk_end, join_good, join_gauges}
 use Rattle.stored.specs.inside.Store.{own_shapes, Entry, Named, Stored}
-use Rattle.stored.specs.inside.PartWords.{kind_read}
 use Rattle.stored.specs.inside.Filling.{Between, Lies, Added, Rows, Fillable, Filled}
 use Rattle.stored.specs.inside.Adding.{Room, GaugeAdded, JoinRoom}
 use Rattle.stored.proofs.PartLists.{entry_of, own_gauge, own_length, own_few, cut_gauges, cut_short}
 use Rattle.stored.proofs.StoredRows.{stored_frame, lies_frame, rows_frame, rows_total, part_words, used, used_few}
 
-pub record Filling (gap : ℕ) (file s₀ s : List ℕ) (at part to : ℕ) : Type 0 where
+pub record Filling (gap : ℕ) (file s₀ s rest : List ℕ) (part to : ℕ) : Type 0 where
   pub ready : Fillable file gap s₀
   pub stack : List Tree
-  pub walk : Walk file ready.tree at stack
+  pub walk : Walk file ready.tree rest stack
   pub length_kept : length s ≡ length s₀
   pub rows : Rows gap s to stack part
   pub used_is : to ≡ 508 + used gap stack
 
--- The head of a taken file is there.
+-- A taken file has its header.
 pub filling_head : (gap : ℕ) (file s : List ℕ) → Fillable file gap s → 7 ≤ length file
-filling_head gap file s ready = (walk_start file ready.tree ready.face).inside
+filling_head gap file s ready = file_long file (ready.tree, ready.face)
 
-pub filling_start : (gap : ℕ) (file s : List ℕ) → Fillable file gap s → Filling gap file s s first_entry 0 508
-filling_start gap file s ready =
+pub filling_taken : (gap : ℕ) (file s : List ℕ) → Fillable file gap s → (t : Tree) × (face_of file ≡ taken t)
+filling_taken gap file s ready = (ready.tree, ready.face)
+
+pub filling_start : (gap : ℕ) (file s : List ℕ) (of it : Entries) → Fillable file gap s → of.rest.now ≡ drop 7 file → it ≡ of → Filling gap file s s it.rest.now 0 508
+filling_start gap file s of it ready r same =
     record {
       ready = ready;
       stack = [];
-      walk = walk_start file ready.tree ready.face;
+      walk = rw (same, r) (walk_start file ready.tree ready.face);
       length_kept = refl;
       rows = refl;
       used_is = refl;
@@ -63,10 +69,6 @@ lies_between : (gap : ℕ) (s : List ℕ) (to x : ℕ) (t : Tree) → Lies gap s
 lies_between gap s to x (gauge z) l = l.0
 lies_between gap s to x (beside a b) l = l.0
 lies_between gap s to x (stacked a b) l = l.0
-
-kind_same : (kind : ℕ) (cut : Tree → Tree → Tree) → Cut kind cut → byte_of (kind_read kind) ≡ kind
-kind_same kind cut cut_beside = refl
-kind_same kind cut cut_stacked = refl
 
 -- The same of both joins.
 cut_used : (gap kind : ℕ) (cut : Tree → Tree → Tree) → Cut kind cut → (a b : Tree) → part_words gap (cut a b) ≡ part_words gap a + part_words gap b + length (own_shapes gap (cut a b))
@@ -94,7 +96,7 @@ cut_lies : (gap kind : ℕ) (cut : Tree → Tree → Tree) → Cut kind cut → 
 cut_lies gap kind cut cut_beside a b z to e h x y = (h, x, y)
 cut_lies gap kind cut cut_stacked a b z to e h x y = (h, x, y)
 
-module _ (gap : ℕ) (file s₀ s : List ℕ) (at part to : ℕ) (k : Filling gap file s₀ s at part to) where
+module _ (gap : ℕ) (file s₀ s : List ℕ) (part to : ℕ) (it behind : Entries) (k : Filling gap file s₀ s it.rest.now part to) where
   abbrev face : Tree
   face = k.ready.tree
 
@@ -104,55 +106,61 @@ module _ (gap : ℕ) (file s₀ s : List ℕ) (at part to : ℕ) (k : Filling ga
   place_few : (508 ≤ to) × (to ≤ 15_708)
   place_few =
       let u = k.used_is in
-      let few = used_few gap k.stack (walk_good file face at k.stack k.walk) (walk_gauges file face at k.stack k.walk) in
+      let few = used_few gap k.stack (walk_good file face it.rest.now k.stack k.walk) (walk_gauges file face it.rest.now k.stack k.walk) in
       (omega arith, omega arith)
 
-  module _ (r : FileEntry) (found : Finds file at r) where
-    module _ (g : GaugeEntry) (e : r ≡ Gauge g) where
-      abbrev here : GaugeAt file face at k.stack g
-      here = found_gauge file face at k.stack k.walk r found g e
+  module _ (r : FileEntry) (came : Gives it (Some r) behind) where
+    module _ (own_sizes : Bor (List ℕ)) (e : r ≡ Gauge own_sizes) where
+      abbrev bytes : List ℕ
+      bytes = own_sizes.now
+
+      abbrev count : ℕ
+      count = count_of bytes
+
+      abbrev here : GaugeNext file face k.stack it.rest.now bytes behind.rest.now
+      here = came_gauge file face k.stack it behind k.walk r came own_sizes e
 
       abbrev sizes : List Item
-      sizes = sizes_in g.count (size_bytes_of file g)
+      sizes = sizes_in count bytes
 
       pub gauge_part : part + 1 < 128
       gauge_part =
           let total = rows_total gap s to k.stack part k.rows in
-          let few = walk_gauges file face g.next (gauge sizes ∷ k.stack) here.walk in
+          let few = walk_gauges file face behind.rest.now (gauge sizes ∷ k.stack) here.walk in
           let one_more = length-append (flat gauges_of k.stack) (sizes ∷ []) in
           omega arith
 
-      pub gauge_bytes : GaugeBytes g.count (size_bytes_of file g)
+      pub gauge_bytes : GaugeBytes count bytes
       gauge_bytes = record { sized = here.sized; some = here.some; few = here.few }
 
       -- The sizes of a gauge that was asked for its order stand in order.
-      pub gauge_in_order : (known : Bool) → known ≡ asks_order (rules_of file) → known ≡ true → (word : ℕ) → word ≡ counting_word g.count → word ≡ order_word sizes
+      pub gauge_in_order : (known : Bool) → known ≡ asks_order (rules_of file) → known ≡ true → (word : ℕ) → word ≡ counting_word count → word ≡ order_word sizes
       gauge_in_order known Known-is asked word word_is =
-          first_word_is g.count (size_bytes_of file g) word (here.order (sym Known-is ∙ asked)) word_is
+          first_word_is count bytes word (here.order (sym Known-is ∙ asked)) word_is
 
-      pub gauge_room : Room s part to (g.count + 1)
+      pub gauge_room : Room s part to (count + 1)
       gauge_room =
           let p = place_few in
           let few = here.few in
           record { long = long; part = (let fits = gauge_part in omega arith); from = p.0; items = omega arith }
 
-      pub gauge_fits : to + (g.count + 1) < 65_536
+      pub gauge_fits : to + (count + 1) < 65_536
       gauge_fits = let p = place_few in let few = here.few in omega arith
 
-      pub filling_gauge : (z : List ℕ) → GaugeAdded s z part to (to + g.count) sizes → Filling gap file s₀ z g.next (part + 1) (to + (g.count + 1))
+      pub filling_gauge : (z : List ℕ) → GaugeAdded s z part to (to + count) sizes → Filling gap file s₀ z behind.rest.now (part + 1) (to + (count + 1))
       filling_gauge z added =
           let d = added.added in
-          let up = to + (g.count + 1) in
+          let up = to + (count + 1) in
           let p = place_few in
           let low = added.low in
           let to_end = added.to_end in
           let back : part ≡ part + 1 - 1 = omega arith in
           let list : gauge_shapes sizes ≡ own_shapes gap (gauge sizes) = sym (own_gauge gap sizes) in
           let as_long = ap length list in
-          let many = in_length g.count (size_bytes_of file g) in
+          let many = in_length count bytes in
           let f = d.from_is in
           let entry : Entry z part 0x01 1 (own_shapes gap (gauge sizes)) = subst (λ (l : List Item). Entry z part 0x01 1 l) list d.entry in
-          let place : get_or z (4 * part) 0 + length (own_shapes gap (gauge sizes)) ≡ to + g.count = omega arith in
+          let place : get_or z (4 * part) 0 + length (own_shapes gap (gauge sizes)) ≡ to + count = omega arith in
           let named : Named gap z part sizes = ap (λ (i : ℕ). get_or z i 0) place ∙ added.named in
           let lies : Lies gap z up part (gauge sizes) = ((omega arith, omega arith), omega arith) in
           let below : Rows gap z up k.stack part = rows_frame gap s z part to up d.length_kept d.table_kept (λ i from less. d.lists_kept i from (omega arith)) (omega arith) k.stack part (omega arith) k.rows in
@@ -171,9 +179,12 @@ module _ (gap : ℕ) (file s₀ s : List ℕ) (at part to : ℕ) (k : Filling ga
             used_is = let u = k.used_is in omega arith;
           }
 
-    module _ (kind behind : ℕ) (e : r ≡ Join kind behind) where
-      abbrev joining : JoinAt file face at k.stack kind behind
-      joining = found_join file face at k.stack k.walk r found kind behind e
+    module _ (join : Kind) (e : r ≡ Join join) where
+      abbrev joining : JoinNext (Walk file face) k.stack it.rest.now join behind.rest.now
+      joining = came_join file face k.stack it behind k.walk r came join e
+
+      abbrev kind : ℕ
+      kind = byte_of join
 
       abbrev older : Tree
       older = joining.older
@@ -182,7 +193,7 @@ module _ (gap : ℕ) (file s₀ s : List ℕ) (at part to : ℕ) (k : Filling ga
       newer = joining.newer
 
       abbrev rest : List Tree
-      rest = joining.rest
+      rest = joining.below
 
       stand : Rows gap s to (newer ∷ older ∷ rest) part
       stand = subst (λ (x : List Tree). Rows gap s to x part) joining.two k.rows
@@ -194,10 +205,10 @@ module _ (gap : ℕ) (file s₀ s : List ℕ) (at part to : ℕ) (k : Filling ga
       lo = stand.4.0
 
       good : Good newer × Good older
-      good = join_good file face at k.stack k.walk kind behind joining
+      good = join_good file face it.rest.now k.stack k.walk join behind.rest.now joining
 
       gauges_few : gauge_count older + gauge_count newer ≤ 64
-      gauges_few = join_gauges file face at k.stack k.walk kind behind joining
+      gauges_few = join_gauges file face it.rest.now k.stack k.walk join behind.rest.now joining
 
       numbers : (mid - 1 ≡ part - 2 * gauge_count newer) × (1 ≤ part) × (2 * gauge_count newer ≤ part) × (part < 127)
       numbers =
@@ -207,7 +218,7 @@ module _ (gap : ℕ) (file s₀ s : List ℕ) (at part to : ℕ) (k : Filling ga
           let y = depth_few newer in
           let few = gauges_few in
           let total = rows_total gap s to k.stack part k.rows in
-          let all = walk_gauges file face at k.stack k.walk in
+          let all = walk_gauges file face it.rest.now k.stack k.walk in
           let two = ap length joining.two in
           (omega arith, omega arith, omega arith, omega arith)
 
@@ -243,90 +254,82 @@ module _ (gap : ℕ) (file s₀ s : List ℕ) (at part to : ℕ) (k : Filling ga
       pub join_part : part + 1 < 128
       join_part = let n = numbers in omega arith
 
-      -- The kind of the byte, whose number is the byte.
-      module _ (join : Kind) (read : join ≡ kind_read kind) where
-        join_is : byte_of join ≡ kind
-        join_is = ap byte_of read ∙ kind_same kind joining.cut cut
+      pub join_ready : (c : Tree → Tree → Tree) × (a : Tree) × (b : Tree) × JoinRoom gap s part to kind c a b
+      join_ready = (joining.cut, older, newer, join_room)
 
-        room_by_kind : JoinRoom gap s part to (byte_of join) joining.cut older newer
-        room_by_kind = subst (λ (n : ℕ). JoinRoom gap s part to n joining.cut older newer) (sym join_is) join_room
+      abbrev Joined : List ℕ → ℕ → Type 0
+      Joined z n =
+          (c : Tree → Tree → Tree) (a b : Tree) → JoinRoom gap s part to kind c a b → Added s z part to kind (gauge_count a + gauge_count b) (own_shapes gap (c a b)) × (n ≡ length (own_shapes gap (c a b)))
 
-        pub join_ready : (c : Tree → Tree → Tree) × (a : Tree) × (b : Tree) × JoinRoom gap s part to (byte_of join) c a b
-        join_ready = (joining.cut, older, newer, room_by_kind)
+      module _ (z : List ℕ) (n : ℕ) (joined : Joined z n) where
+        abbrev added : Added s z part to kind (gauge_count older + gauge_count newer) (own_shapes gap (joining.cut older newer))
+        added = (joined joining.cut older newer join_room).0
 
-        abbrev Joined : List ℕ → ℕ → Type 0
-        Joined z n =
-            (c : Tree → Tree → Tree) (a b : Tree) → JoinRoom gap s part to (byte_of join) c a b → Added s z part to (byte_of join) (gauge_count a + gauge_count b) (own_shapes gap (c a b)) × (n ≡ length (own_shapes gap (c a b)))
+        item_count : n ≡ length (own_shapes gap (joining.cut older newer))
+        item_count = (joined joining.cut older newer join_room).1
 
-        module _ (z : List ℕ) (n : ℕ) (joined : Joined z n) where
-          abbrev added : Added s z part to kind (gauge_count older + gauge_count newer) (own_shapes gap (joining.cut older newer))
-          added = subst (λ (k : ℕ). Added s z part to k (gauge_count older + gauge_count newer) (own_shapes gap (joining.cut older newer))) join_is (joined joining.cut older newer room_by_kind).0
+        pub join_fits : to + n < 65_536
+        join_fits =
+            let p = place_few in
+            let m = item_count in
+            let short = cut_short gap kind joining.cut cut older newer good.1 good.0 gauges_few in
+            omega arith
 
-          item_count : n ≡ length (own_shapes gap (joining.cut older newer))
-          item_count = (joined joining.cut older newer room_by_kind).1
+        new_stored : Stored gap z part (joining.cut older newer)
+        new_stored =
+            cut_stored gap kind joining.cut cut older newer z part added.entry (let w = numbers.2 in let second = stand.4.1 in let first = stand.1 in omega arith)
+            (stored_frame gap s z part to (to + n) added.length_kept added.table_kept added.lists_kept (omega arith) newer (part - 1) (let w = numbers.1 in omega arith) stand.2 stand.3)
+            (stored_frame gap s z part to (to + n) added.length_kept added.table_kept added.lists_kept (omega arith) older (part - 2 * gauge_count newer) (let w = numbers.2 in let y = depth_few newer in omega arith) older_stored.0 older_stored.1)
 
-          pub join_fits : to + n < 65_536
-          join_fits =
-              let p = place_few in
-              let m = item_count in
-              let short = cut_short gap kind joining.cut cut older newer good.1 good.0 gauges_few in
-              omega arith
+        new_lies : Lies gap z (to + n) part (joining.cut older newer)
+        new_lies =
+            cut_lies gap kind joining.cut cut older newer z (to + n) part
+            (let f = added.from_is in let p = place_few in let m = item_count in (omega arith, omega arith))
+            (lies_frame gap s z part to (to + n) added.length_kept added.table_kept added.lists_kept (omega arith) newer (part - 1) (let w = numbers.1 in omega arith) stand.3)
+            (lies_frame gap s z part to (to + n) added.length_kept added.table_kept added.lists_kept (omega arith) older (part - 2 * gauge_count newer) (let w = numbers.2 in let y = depth_few newer in omega arith) older_stored.1)
 
-          new_stored : Stored gap z part (joining.cut older newer)
-          new_stored =
-              cut_stored gap kind joining.cut cut older newer z part added.entry (let w = numbers.2 in let second = stand.4.1 in let first = stand.1 in omega arith)
-              (stored_frame gap s z part to (to + n) added.length_kept added.table_kept added.lists_kept (omega arith) newer (part - 1) (let w = numbers.1 in omega arith) stand.2 stand.3)
-              (stored_frame gap s z part to (to + n) added.length_kept added.table_kept added.lists_kept (omega arith) older (part - 2 * gauge_count newer) (let w = numbers.2 in let y = depth_few newer in omega arith) older_stored.0 older_stored.1)
+        pub filling_join : Filling gap file s₀ z behind.rest.now (part + 1) (to + n)
+        filling_join =
+            let back : part ≡ part + 1 - 1 = omega arith in
+            let first = stand.1 in
+            let second = stand.4.1 in
+            let g = cut_gauges kind joining.cut cut older newer in
+            let below : Rows gap z (to + n) rest lo = rows_frame gap s z part to (to + n) added.length_kept added.table_kept added.lists_kept (omega arith) rest lo (let x = depth_few older in let y = depth_few newer in omega arith) stand.4.4 in
+            record {
+              ready = k.ready;
+              stack = joining.cut older newer ∷ rest;
+              walk = joining.walk;
+              length_kept = added.length_kept ∙ k.length_kept;
+              rows = (
+                lo,
+                omega arith,
+                subst (λ (x : ℕ). Stored gap z x (joining.cut older newer)) back new_stored,
+                subst (λ (x : ℕ). Lies gap z (to + n) x (joining.cut older newer)) back new_lies,
+                below,
+              );
+              used_is =
+                  let u = k.used_is in
+                  let before = ap (used gap) joining.two in
+                  let m = item_count in
+                  let w = cut_used gap kind joining.cut cut older newer in
+                  omega arith;
+            }
 
-          new_lies : Lies gap z (to + n) part (joining.cut older newer)
-          new_lies =
-              cut_lies gap kind joining.cut cut older newer z (to + n) part
-              (let f = added.from_is in let p = place_few in let m = item_count in (omega arith, omega arith))
-              (lies_frame gap s z part to (to + n) added.length_kept added.table_kept added.lists_kept (omega arith) newer (part - 1) (let w = numbers.1 in omega arith) stand.3)
-              (lies_frame gap s z part to (to + n) added.length_kept added.table_kept added.lists_kept (omega arith) older (part - 2 * gauge_count newer) (let w = numbers.2 in let y = depth_few newer in omega arith) older_stored.1)
-
-          pub filling_join : Filling gap file s₀ z behind (part + 1) (to + n)
-          filling_join =
-              let back : part ≡ part + 1 - 1 = omega arith in
-              let first = stand.1 in
-              let second = stand.4.1 in
-              let g = cut_gauges kind joining.cut cut older newer in
-              let below : Rows gap z (to + n) rest lo = rows_frame gap s z part to (to + n) added.length_kept added.table_kept added.lists_kept (omega arith) rest lo (let x = depth_few older in let y = depth_few newer in omega arith) stand.4.4 in
-              record {
-                ready = k.ready;
-                stack = joining.cut older newer ∷ rest;
-                walk = joining.walk;
-                length_kept = added.length_kept ∙ k.length_kept;
-                rows = (
-                  lo,
-                  omega arith,
-                  subst (λ (x : ℕ). Stored gap z x (joining.cut older newer)) back new_stored,
-                  subst (λ (x : ℕ). Lies gap z (to + n) x (joining.cut older newer)) back new_lies,
-                  below,
-                );
-                used_is =
-                    let u = k.used_is in
-                    let before = ap (used gap) joining.two in
-                    let m = item_count in
-                    let w = cut_used gap kind joining.cut cut older newer in
-                    omega arith;
-              }
-
-  module _ (over : length file ≤ at) where
+  module _ (r : Option FileEntry) (none : r ≡ None) (came : Gives it r behind) where
     last_stack : k.stack ≡ face ∷ []
-    last_stack = walk_end file face at k.stack k.walk over
+    last_stack = walk_end file face it.rest.now k.stack k.walk (came_none file face k.stack it behind k.walk r none came)
 
     root : Rows gap s to (face ∷ []) part
     root = subst (λ (x : List Tree). Rows gap s to x part) last_stack k.rows
 
     pub filled_some : 1 ≤ part
-    filled_some = let n = root.1 in let none = root.4 in let x = depth_few face in omega arith
+    filled_some = let n = root.1 in let alone = root.4 in let x = depth_few face in omega arith
 
     pub filled : (t : Tree) → face_of file ≡ taken t → Filled gap s₀ s (part - 1) t
     filled t e =
-        let same = walk_face file face at k.stack k.walk t e in
+        let same = walk_face file face it.rest.now k.stack k.walk t e in
         let n = root.1 in
-        let none = root.4 in
+        let alone = root.4 in
         let some = filled_some in
         subst (λ (x : Tree). Filled gap s₀ s (part - 1) x) same
         (record { length_kept = k.length_kept; last = omega arith; stored = root.2 })

@@ -11,9 +11,10 @@ ghost use Rattle.stored.specs.inside.PartWords.{stretch_of};
 ghost use Rattle.stored.specs.inside.Filling.{Fillable, Filled};
 ghost use Rattle.stored.specs.inside.Adding.{Room, PackedBefore, GaugeAdded, JoinRoom, JoinAdded};
 
-use crate::table::{Part, kind_of};
+use crate::table::Part;
 use entries::Kind;
-use facefile::walk::{Entry, FIRST_ENTRY, asks_order, entry_at};
+use facefile::entry::{Entries, Entry};
+use facefile::walk::asks_order;
 use packed::item::packed;
 use packed::merge::merge_lists;
 use packed::stretch::Stretch;
@@ -31,6 +32,7 @@ fn store_sizes(scratch: &mut [u32], end: usize, bytes: &[u8], named: u32) -> usi
 {
     let mut at = end;
     let mut left = named;
+    // Digits are taken off until none is left: no place or item is counted here.
     while 0 < left {
         let k = (left % 16) as usize - 1;
         let z = size_in(bytes, k);
@@ -105,28 +107,23 @@ pub fn store_lists(file: &[u8], rib: u32, scratch: &mut [u32]) -> usize
     ensures { (t : Tree) → face_of file.now ≡ taken t → Filled rib scratch.old scratch.new result t }
 {
     let known = asks_order(file);
-    let mut at = FIRST_ENTRY;
     let mut part = 0;
     let mut to = TABLE;
-    while at < file.len() {
-        match entry_at(file, at) {
-            Entry::Gauge(g) => {
-                let from = g.from;
-                let end = g.to;
-                let sizes = &file[from..end];
+    for entry in Entries::of(file) {
+        match entry {
+            Entry::Gauge(sizes) => {
+                let count = sizes.len() / 4;
                 let named = if known {
-                    in_order(g.count)
+                    in_order(count)
                 } else {
-                    order(sizes, g.count)
+                    order(sizes, count)
                 };
-                store_gauge(scratch, part, to, sizes, g.count, named);
-                to += g.count + 1;
-                at = g.next;
+                store_gauge(scratch, part, to, sizes, count, named);
+                to += count + 1;
                 part += 1;
             }
-            Entry::Join(kind, next) => {
-                to += store_join(scratch, part, to, kind_of(kind as u32), rib);
-                at = next;
+            Entry::Join(kind) => {
+                to += store_join(scratch, part, to, kind, rib);
                 part += 1;
             }
         }

@@ -16,7 +16,7 @@ pub struct Part {
 }
 
 // The kind that a word stands for. No other word is stored for one; it would be read as a gauge's.
-pub fn kind_of(word: u32) -> Kind
+fn kind_of(word: u32) -> Kind
     ensures { result ≡ kind_read word }
 {
     match word {
