@@ -14,11 +14,11 @@ use Rattle.slicing.specs.Item.{Item, size, height}
 use Rattle.slicing.specs.Useful.{gauge_shapes}
 use Rattle.slicing.proofs.Indexes.{index_found}
 use Rattle.slicing.proofs.GaugeUseful.{gauge_useful}
-use Rattle.sizes.specs.inside.Sizes.{sizes_in, SizeIn}
+use Rattle.sizes.specs.inside.Sizes.{sizes_in}
 use Rattle.sizes.specs.declared.Size.{Size}
 use Rattle.sizes.proofs.SizesIn.{in_length}
 use Rattle.useful.specs.inside.Order.{GaugeBytes, list_places, first_digits, order_word}
-use Rattle.useful.specs.inside.Narrowest.{size_no, NextBelow}
+use Rattle.useful.specs.inside.Narrowest.{size_no, Narrowest, NextBelow}
 use Rattle.useful.proofs.Digits.{digits_more, digits_none, digits_all, digits_fit}
 use Rattle.useful.proofs.Places.{places_length, place_is, place_low}
 use Rattle.useful.proofs.SizesFit.{Bytes, sizes_fit}
@@ -92,7 +92,10 @@ module _ (bytes : List ℕ) (count : ℕ) where
       let all : known.items ≡ length (list_places s) = omega (arith, known.high.to_end, places_length s) in
       known.word_is ∙ ap (first_digits (list_places s)) all ∙ digits_all (list_places s)
 
-  module _ (word h k : ℕ) (known : SoFar s word h) (narrowest : NextBelow s h (Some k)) where
+  module _ (word h k : ℕ) (z : Size) (known : SoFar s word h) (below : NextBelow s h (Some (k, z))) where
+    narrowest : Narrowest s h k
+    narrowest = below.0
+
     pub place_inside : k < count
     place_inside = omega (arith, narrowest.inside, as_many)
 
@@ -116,20 +119,19 @@ module _ (bytes : List ℕ) (count : ℕ) where
         let place = place_is s known.items listed in
         omega (arith, known.word_is, item.index)
 
-    -- The size that is read at the place is the next item.
-    module _ (z : Size) (read : SizeIn bytes k z) where
-      same_height : z.height ≡ height (size_no s k)
-      same_height = ap height (read.same count place_inside)
+    -- The size is the next item.
+    same_height : z.height ≡ height (size_no s k)
+    same_height = ap height below.1
 
-      pub falls : z.height < h
-      falls = omega (arith, same_height, narrowest.lower)
+    pub falls : z.height < h
+    falls = omega (arith, same_height, narrowest.lower)
 
-      pub one_more : SoFar s (16 * word + (k + 1)) z.height
-      one_more =
-          let at_item = same_height ∙ sym (ap height item.same) in
-          record {
-            items = known.items + 1;
-            high = subst (λ (n : ℕ). HighItems s n (known.items + 1)) (sym at_item) (high_more s h known.items known.high item.inside);
-            word_is = digit_more;
-            few = known.few;
-          }
+    pub one_more : SoFar s (16 * word + (k + 1)) z.height
+    one_more =
+        let at_item = same_height ∙ sym (ap height item.same) in
+        record {
+          items = known.items + 1;
+          high = subst (λ (n : ℕ). HighItems s n (known.items + 1)) (sym at_item) (high_more s h known.items known.high item.inside);
+          word_is = digit_more;
+          few = known.few;
+        }

@@ -166,10 +166,10 @@ module _ (bytes : List ℕ) (count h : ℕ) where
         passed s h (Some b) k known (omega (arith, as_many))
         (λ low. subst (NoWorse (held b.1)) here (narrower_false (held z) (held b.1) (sym (says b test) ∙ fails)))
 
-  pub all_seen : (best : Option (ℕ × Size)) (k : ℕ) (r : Option ℕ) (P : ℕ × Size → Type 0) → Best s h best k → count ≤ k → MatchOption best (r ≡ None) P → ((b : ℕ × Size) → P b → r ≡ Some b.0) → NextBelow s h r
-  all_seen None k r P known done e says = rw e (λ i less. lower_no (ltb (height (size_no s i)) h) i refl less)
+  pub all_seen : (best : Option (ℕ × Size)) (k : ℕ) → Best s h best k → count ≤ k → NextBelow s h best
+  all_seen None k known done = λ i less. lower_no (ltb (height (size_no s i)) h) i refl less
     where
       lower_no : (t : Bool) (i : ℕ) → ltb (height (size_no s i)) h ≡ t → i < length s → h ≤ height (size_no s i)
       lower_no true i e less = absurd (known.seen i (omega (arith, as_many)) (ltb-true _ h e))
       lower_no false i e less = ltb-false _ h e
-  all_seen (Some b) k r P known done e says = rw (says b e) (found s h k b known (omega (arith, as_many)))
+  all_seen (Some (place, z)) k known done = (found s h k (place, z) known (omega (arith, as_many)), known.seen.0.same)

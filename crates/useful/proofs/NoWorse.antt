@@ -1,28 +1,26 @@
 -- What the test of two sizes says: that the one is narrower, or as wide and lower; or else that the other is no worse.
 -- The test looks at the widths first, and at the heights only where the widths are equal.
 use mathlib.Core.Path.{◌≡◌, refl}
-use mathlib.Core.Bool.{Bool, true, false, cond, ◌&&◌, ◌||◌, false≢true, true≢false}
-use Rattle.std.specs.Prelude.{Some}
-use Rattle.std.specs.Ordering.{is_some_and, is_lt, nat_cmp, partial_ordering_then}
-use Rattle.std.specs.declared.cmp.Ordering.TheVariants.{Less, Equal, Greater}
+use mathlib.Core.Bool.{Bool, true, false, ◌&&◌, ◌||◌, false≢true, true≢false}
 use Prim.Native.Nat.{ℕ, ◌≤◌, ◌<◌}
 use native.Mathlib.Omega.{arith}
 use lib.Dec.{ltb, eqb}
-use borrow.Author.Tests.{ltb-true, ltb-false, eqb-true, eqb-false}
+use borrow.Author.Tests.{ltb-true, ltb-false, eqb-true, eqb-false, lt-ltb, le-ltb, eq-eqb, ne_eqb}
 use Rattle.slicing.specs.Item.{Item, size, height, width}
 use Rattle.useful.specs.inside.Narrowest.{narrower}
 
--- The order of pairs: by the widths, and of equal widths by the heights.
-by_tests : (b c d e : Bool) → is_some_and is_lt (partial_ordering_then (Some (cond b Less (cond c Equal Greater))) (Some (cond d Less (cond e Equal Greater)))) ≡ (b || (c && d))
-by_tests true c d e = refl
-by_tests false true true e = refl
-by_tests false true false true = refl
-by_tests false true false false = refl
-by_tests false false d e = refl
-
-pub narrower_pair : (h w k v : ℕ) → is_some_and is_lt (partial_ordering_then (Some (nat_cmp w v)) (Some (nat_cmp h k))) ≡ narrower (size h w) (size k v)
+-- The ways through the test: narrower, as wide, wider.
+pub narrower_yes : (h w k v : ℕ) → w < v → ltb w v ≡ narrower (size h w) (size k v)
 unfolding narrower
-narrower_pair h w k v = by_tests (ltb w v) (eqb w v) (ltb h k) (eqb h k)
+narrower_yes h w k v less = simp (lt-ltb w v less)
+
+pub narrower_same : (h w k v : ℕ) → v ≤ w → w ≡ v → ltb h k ≡ narrower (size h w) (size k v)
+unfolding narrower
+narrower_same h w k v over same = simp (le-ltb w v over, eq-eqb w v same)
+
+pub narrower_no : (h w k v : ℕ) → v ≤ w → (w ≡ v → ⊥) → eqb w v ≡ narrower (size h w) (size k v)
+unfolding narrower
+narrower_no h w k v over other = simp (le-ltb w v over, ne_eqb w v other)
 
 -- y is narrower than z, or as wide and no higher.
 pub record NoWorse (y z : Item) : Type 0 where

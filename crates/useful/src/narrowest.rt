@@ -11,15 +11,15 @@ use sizes::{Size, size_in};
 // Above every height of two bytes.
 const ABOVE: u32 = 65536;
 
-// Whether z is narrower than the other size, or as wide and lower.
+// Whether z is narrower than the other size, or as wide and lower. As pairs of width and height the two compare slower.
 fn is_narrower(z: Size, than: Size) -> bool
     ensures { result ≡ narrower (size z.height z.width) (size than.height than.width) }
 {
-    (z.width, z.height) < (than.width, than.height)
+    z.width < than.width || (z.width == than.width && z.height < than.height)
 }
 
-// The place of the narrowest size that is lower than a height, of equal width of the lowest, of equal pairs of the first.
-fn narrowest_below(sizes: &[u8], count: usize, height: u32) -> Option<usize>
+// The narrowest size that is lower than a height, with its place, of equal width the lowest, of equal pairs the first.
+fn narrowest_below(sizes: &[u8], count: usize, height: u32) -> Option<(usize, Size)>
     requires { GaugeBytes count sizes.now }
     ensures { NextBelow (sizes_in count sizes.now) height result }
 {
@@ -30,7 +30,7 @@ fn narrowest_below(sizes: &[u8], count: usize, height: u32) -> Option<usize>
             best = Some((k, z));
         }
     }
-    best.map(|(k, _)| k)
+    best
 }
 
 // The word of a gauge's list, digit by digit from the highest size of the list to the lowest.
@@ -40,9 +40,9 @@ pub fn narrowest_first(sizes: &[u8], count: usize) -> u32
 {
     let mut word = 0;
     let mut height = ABOVE;
-    while let Some(k) = narrowest_below(sizes, count, height) {
+    while let Some((k, z)) = narrowest_below(sizes, count, height) {
         word = 16 * word + (k as u32 + 1);
-        height = size_in(sizes, k).height;
+        height = z.height;
     }
     word
 }

@@ -1,5 +1,6 @@
 -- The next size of a gauge's list: of the sizes that are lower than a height, the narrowest. No public contract cites it.
 use Rattle.std.specs.Prelude.{◌≡◌, Bool, ◌&&◌, ◌||◌, List, ℕ, ◌≤◌, ◌<◌, length, get_or, ltb, eqb, Option, Some, None}
+use Rattle.sizes.specs.declared.Size.{Size}
 use Rattle.slicing.specs.Item.{Item, size, height, width}
 
 -- The size at a place, counted from 0.
@@ -18,7 +19,7 @@ pub record Narrowest (s : List Item) (h k : ℕ) : Type 0 where
   pub lowest : (i : ℕ) → i < length s → height (size_no s i) < h → width (size_no s i) ≡ width (size_no s k) → height (size_no s k) ≤ height (size_no s i)
   pub first : (i : ℕ) → i < k → size_no s i ≡ size_no s k → ⊥
 
--- The place of the narrowest size lower than h, where a size is lower.
-abbrev pub NextBelow : List Item → ℕ → Option ℕ → Type 0
+-- The narrowest size lower than h, with its place, where a size is lower.
+abbrev pub NextBelow : List Item → ℕ → Option (ℕ × Size) → Type 0
 NextBelow s h None = (i : ℕ) → i < length s → h ≤ height (size_no s i)
-NextBelow s h (Some k) = Narrowest s h k
+NextBelow s h (Some (k, z)) = Narrowest s h k × (size z.height z.width ≡ size_no s k)

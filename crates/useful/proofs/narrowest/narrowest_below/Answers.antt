@@ -1,4 +1,4 @@
--- `useful::narrowest::narrowest_below` meets its contract: the place of the next size of the list.
+-- `useful::narrowest::narrowest_below` meets its contract: the next size of the list.
 -- The loop keeps `Best`, the narrowest of the sizes that it has looked at.
 use Rattle.std.proofs.Common.{rules, tests}
 use Rattle.useful.proofs.NarrowestSeen.{none_seen, seen_better, seen_tall, seen_worse, all_seen}
@@ -25,5 +25,4 @@ loop-k-preserved c =
     ]
 
 pub returns : goal.returns
-returns c =
-    all_seen _ _ _ _ _ _ _ c.loop-k.invariant c.loop-k-test.false c.map.ensures.cases (λ b e. search (rules, tests))
+returns c = all_seen _ _ _ _ _ c.loop-k.invariant c.loop-k-test.false

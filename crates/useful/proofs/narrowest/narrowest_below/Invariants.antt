@@ -1,4 +1,4 @@
--- `useful::narrowest::narrowest_below` meets its contract: the place of the next size of the list.
+-- `useful::narrowest::narrowest_below` meets its contract: the next size of the list.
 -- The loop keeps `Best`, the narrowest of the sizes that it has looked at.
 use Rattle.sizes.specs.inside.Sizes.{sizes_in}
 use Rattle.useful.proofs.NarrowestSeen.{Best}

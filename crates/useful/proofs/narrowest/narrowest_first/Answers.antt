@@ -10,36 +10,33 @@ loop-k-init c = none_yet _ _ (λ i. (c.type_inv.sizes i).fits) c.requires
 
 pub overflow_mul-word : goal.overflow_mul-word
 overflow_mul-word c =
-    let low : c.loop-k.word < 268_435_456 = digit_fits _ _ _ _ _ c.loop-k.invariant c.in-Some.ensures in
+    let low : c.loop-k.word < 268_435_456 = digit_fits _ _ _ _ _ _ c.loop-k.invariant c.in-Some.ensures in
     omega (arith, low)
 
 pub overflow_cast-word : goal.overflow_cast-word
 overflow_cast-word c =
-    let inside : c.in-Some.k < c.args.count = place_inside _ _ _ _ _ c.loop-k.invariant c.in-Some.ensures in
+    let inside : c.in-Some.k < c.args.count = place_inside _ _ _ _ _ _ c.loop-k.invariant c.in-Some.ensures in
     let few = c.requires.few in
     omega arith
 
 pub overflow_add-word : goal.overflow_add-word
 overflow_add-word c =
-    let inside : c.in-Some.k < c.args.count = place_inside _ _ _ _ _ c.loop-k.invariant c.in-Some.ensures in
+    let inside : c.in-Some.k < c.args.count = place_inside _ _ _ _ _ _ c.loop-k.invariant c.in-Some.ensures in
     let few = c.requires.few in
     omega arith
 
 pub overflow_add-word-in-Some : goal.overflow_add-word-in-Some
 overflow_add-word-in-Some c =
-    let low : c.loop-k.word < 268_435_456 = digit_fits _ _ _ _ _ c.loop-k.invariant c.in-Some.ensures in
-    let inside : c.in-Some.k < c.args.count = place_inside _ _ _ _ _ c.loop-k.invariant c.in-Some.ensures in
+    let low : c.loop-k.word < 268_435_456 = digit_fits _ _ _ _ _ _ c.loop-k.invariant c.in-Some.ensures in
+    let inside : c.in-Some.k < c.args.count = place_inside _ _ _ _ _ _ c.loop-k.invariant c.in-Some.ensures in
     let few = c.requires.few in
     omega (arith, low)
 
-pub size_in-height-requires : goal.size_in-height-requires
-size_in-height-requires c = (_, c.requires.sized, place_inside _ _ _ _ _ c.loop-k.invariant c.in-Some.ensures)
-
 pub loop-k-smaller : goal.loop-k-smaller
-loop-k-smaller c = falls _ _ _ _ _ c.loop-k.invariant c.in-Some.ensures _ c.size_in-height.ensures
+loop-k-smaller c = falls _ _ _ _ _ _ c.loop-k.invariant c.in-Some.ensures
 
 pub loop-k-preserved : goal.loop-k-preserved
-loop-k-preserved c = one_more _ _ _ _ _ c.loop-k.invariant c.in-Some.ensures _ c.size_in-height.ensures
+loop-k-preserved c = one_more _ _ _ _ _ _ c.loop-k.invariant c.in-Some.ensures
 
 pub returns : goal.returns
 returns c = all_listed _ _ _ _ c.loop-k.invariant c.in_default.ensures
