@@ -64,7 +64,9 @@ fn ask_both(file: &[u8], at: usize, count: usize) -> Result<(), Check>
         }
         before = z;
     }
-    before.limits()
+    // With the answer of this call as the last expression a gauge takes 7 to 13 instructions more.
+    before.limits()?;
+    Ok(())
 }
 
 // The same in a file of another version, which does not ask check 9.
