@@ -21,10 +21,9 @@ pub fn walk_run(arena: &mut [u32], rest: &Rest, key: u32, q: u32, ends: &mut End
     ensures run_moved { RunMoved arena.old arena.new rest.now.head key q ends.old.lasts ends.new.lasts }
     ensures cached_after { CachedIn arena.new rest.now ends.new }
 {
-    let head = rest.head;
     let v = lift(q, rest, ends, 1);
-    let to = walk(arena, head, key, v);
+    let to = walk(arena, rest.head, key, v);
     let sum = get(arena, to, ADJUST);
-    relink_lowest(arena, head, ends.lasts[0], to, sum);
+    relink_lowest(arena, rest.head, ends.lasts[0], to, sum);
     ends.lasts[0] = to;
 }
