@@ -10,7 +10,7 @@ ghost use Rattle.depths.specs.inside.Deep.{Deep};
 use facefile::entry::{Entries, Entry};
 
 // The smallest and the largest number of joins above a gauge.
-#[derive(Clone, Copy, Debug, PartialEq, Eq)]
+#[derive(Clone, Copy, PartialEq, Eq)]
 pub struct Depths {
     pub least: u8,
     pub most: u8,

@@ -16,7 +16,7 @@ pub enum Entry<'a> {
 }
 
 // The entries that are still to come, as the bytes that are left of the file.
-#[derive(Clone, Copy)]
+#[derive(Drop)]
 pub struct Entries<'a> {
     pub rest: &'a [u8],
     ghost stands: { ∥ Stands rest.now ∥₁ },

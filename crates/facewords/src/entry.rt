@@ -16,7 +16,7 @@ pub enum Entry<'a> {
 }
 
 // The entries that are still to come, as the words that are left.
-#[derive(Clone, Copy)]
+#[derive(Drop)]
 pub struct Entries<'a> {
     pub rest: &'a [u32],
     ghost stands: { ∥ Stands rest.now ∥₁ },
