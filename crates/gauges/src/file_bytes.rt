@@ -8,7 +8,7 @@ ghost use Rattle.written.specs.FileOf.{field_bytes, header_bytes};
 ghost use Rattle.text.specs.inside.Writing.{Fits, Wrote};
 ghost use Rattle.gauges.specs.inside.GaugeWords.{GaugeWords};
 
-use entries::GAUGE;
+use entries::Kind;
 use text::page::Page;
 
 const VERSION: u32 = 2;
@@ -50,7 +50,7 @@ pub fn write_gauge(page: &mut Page<'_, u8>, sizes: &[u32])
     requires { (z : List Item) × GaugeWords sizes.now z × Fits page.old (entries_of size_bytes (gauge z)) }
     ensures { (z : List Item) → GaugeWords sizes.now z → Wrote page.old (entries_of size_bytes (gauge z)) page.new }
 {
-    page.put(GAUGE);
+    page.put(Kind::Gauge as u8);
     page.put((sizes.len() / 2) as u8);
     write_sizes(page, sizes);
 }

@@ -6,7 +6,7 @@ ghost use Rattle.sizes.specs.inside.Sizes.{sizes_in, Sized};
 ghost use Rattle.written.specs.EntriesOf.{entries_of};
 ghost use Rattle.text.specs.inside.Writing.{Fits, Wrote};
 
-use entries::GAUGE;
+use entries::Kind;
 use sizes::size_in;
 use text::page::Page;
 
@@ -27,7 +27,7 @@ pub fn put_gauge(page: &mut Page<'_, u32>, sizes: &[u8], count: usize)
     requires { (count ≤ 8) × Sized count sizes.now × Fits page.old (entries_of list_words (gauge (sizes_in count sizes.now))) }
     ensures { Wrote page.old (entries_of list_words (gauge (sizes_in count sizes.now))) page.new }
 {
-    page.put(GAUGE as u32);
+    page.put(Kind::Gauge as u32);
     page.put(count as u32);
     put_sizes(page, sizes, count);
 }

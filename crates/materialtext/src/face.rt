@@ -33,6 +33,8 @@ pub fn material_text(file: &[u8], text: &mut [u8]) -> usize
     if text.len() < TEXT {
         return 0;
     }
+    // `report::faces_text` has this test and this `match` too: a function for both would take `told` as a closure, and its
+    // contract would be longer than they are.
     match told(file, text) {
         Ok(length) => length,
         Err(check) => render_refused(check.number(), text),
