@@ -2,11 +2,7 @@
 #![tactic(auto)]
 
 mod level_checks;
-mod numbers;
 mod words;
 
 pub use level_checks::{level_count, levels};
-pub use numbers::{
-    buffers_number, level_count_number, levels_number, opening_number, output_number, rib_number,
-};
 pub use words::{buffers, opening, output, rib};
