@@ -77,6 +77,7 @@ pub fn read_input<R: Read>(source: &mut R, room: &mut [u8]) -> Input
     ensures stopped { Stopped result.outcome result.length (length room.new) }
 {
     let mut length = 0;
+    // A read gives any number of bytes, so no range counts the reads.
     while length < room.len() {
         match read_some(source, &mut room[length..]) {
             Ok(count) if count > 0 => length += count,
