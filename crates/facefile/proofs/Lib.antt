@@ -5,9 +5,6 @@ pub mod SizeBytes
 pub mod EntryWalk
 pub mod EntrySteps
 pub mod EntryStack
-pub mod EntryBytes
-pub mod WalkSteps
-pub mod WalkStack
 pub mod Reading
 pub mod Seeking
 pub mod Answered

@@ -2,5 +2,4 @@ pub mod WordSizes
 pub mod FirstWord
 pub mod WordCoding
 pub mod EntryRun
-pub mod WordSteps
 pub mod WordsOf
