@@ -12,7 +12,7 @@ use Rattle.facefile.specs.Summary.{counted}
 use Rattle.lent.specs.Questions.{output_lent}
 use Rattle.lent.specs.Call.{call_on}
 use Rattle.lent.proofs.Asking.{output_taken}
-use Rattle.lent.proofs.Calling.{CountedFace, face_counted, tree_no_asked, tree_goes}
+use Rattle.lent.proofs.Calling.{CountedFace, face_counted, refused_by_asked, taken_by_all}
 use Rattle.written.specs.EntriesOf.{entry_count}
 use Rattle.written.proofs.FileOf.{entry_total}
 
@@ -57,7 +57,7 @@ module _ (face : Answer Tree) (few : (t : Tree) → face ≡ taken t → Few t) 
     here = ap (λ (k : ℕ). output_lent k output) (lasts known.tree gauges_are sizes_are)
 
     pub call_no_room : (c : Check) → refused c ≡ output_lent count output → call_on face (λ t. output_lent (long t) output) ≡ refused c
-    call_no_room c is = tree_no_asked face asks known.tree known.face c (is ∙ here)
+    call_no_room c is = refused_by_asked face asks known.tree known.face c (is ∙ here)
 
     pub call_passes : taken tt ≡ output_lent count output → Passing face n long output
     call_passes fits =
@@ -67,7 +67,7 @@ module _ (face : Answer Tree) (few : (t : Tree) → face ≡ taken t → Few t) 
         record {
           tree = t;
           face_is = known.face;
-          call = tree_goes face asks t known.face (fits ∙ here);
+          call = taken_by_all face asks t known.face (fits ∙ here);
           room = output_taken (long t) output (sym (fits ∙ here));
           gauges = g;
           few = few t known.face;

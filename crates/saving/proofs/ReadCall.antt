@@ -15,7 +15,7 @@ use Rattle.facefile.specs.Summary.{counted}
 use Rattle.facefile.proofs.Taken.{face_taken}
 use Rattle.lent.specs.Lent.{written_over}
 use Rattle.lent.specs.Questions.{output_lent}
-use Rattle.lent.proofs.Calling.{tree_no_file}
+use Rattle.lent.proofs.Calling.{refused_by_file}
 use Rattle.writing.specs.Words.{list_words}
 use Rattle.written.specs.EntriesOf.{entries_of}
 use Rattle.facewords.specs.Words.{words_of}
@@ -41,7 +41,7 @@ module _ (file output : List ℕ) where
   pub words_no_file : (c : Check) → refused c ≡ counted (face_of file) → WordPromise (face_of file) output (worded_as (refused c)) output
   unfolding word_call
   words_no_file c is =
-      refused_so c (tree_no_file (face_of file) (λ t. output_lent (length (words_of t)) (length output)) c is)
+      refused_so c (refused_by_file (face_of file) (λ t. output_lent (length (words_of t)) (length output)) c is)
 
   module _ (n : Counts) where
     -- The call is taken.

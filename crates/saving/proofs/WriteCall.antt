@@ -15,7 +15,7 @@ use Rattle.facefile.specs.Gauge.{size_bytes}
 use Rattle.facefile.specs.Summary.{counted}
 use Rattle.lent.specs.Lent.{written_over}
 use Rattle.lent.specs.Questions.{output_lent}
-use Rattle.lent.proofs.Calling.{tree_no_file}
+use Rattle.lent.proofs.Calling.{refused_by_file}
 use Rattle.written.specs.EntriesOf.{entries_of, entry_count}
 use Rattle.written.specs.FileOf.{header_bytes, file_of}
 use Rattle.written.proofs.FileOf.{file_long}
@@ -46,7 +46,7 @@ module _ (words output : List ℕ) where
   pub file_no_words : (c : Check) → refused c ≡ counted (words_face words) → SavePromise (words_face words) output (saved_as (refused c)) output
   unfolding save_call
   file_no_words c is =
-      refused_so c (tree_no_file (words_face words) (λ t. output_lent (length (file_of t)) (length output)) c is)
+      refused_so c (refused_by_file (words_face words) (λ t. output_lent (length (file_of t)) (length output)) c is)
 
   module _ (n : Counts) where
     -- The call is taken.
