@@ -1,6 +1,5 @@
 pub mod Took
 pub mod Stacks
 pub mod Entries
-pub mod Across
 pub mod KindLaws
 pub mod Reading

@@ -2,7 +2,6 @@
 ghost use Rattle.std.specs.Prelude.{◌≡◌};
 ghost use Rattle.entries.specs.inside.Kinds.{across, byte_of, kind_numbered};
 
-use crate::STACKED;
 use checks::Check;
 
 // A gauge, or a join of two parts side by side or stacked, with the number that stands for it in a byte or a word.
@@ -47,15 +46,4 @@ impl TryFrom<u8> for Kind {
     fn try_from(n: u8) -> Result<Self, Check> {
         Kind::try_from(u32::from(n))
     }
-}
-
-// Whether a part of one kind runs the other way than a join of the other kind: stacked parts run by width, all others
-// by height.
-pub fn runs_across(part: u8, join: u8) -> bool
-    ensures { result ≡ across part join }
-{
-    if join == STACKED {
-        return part != STACKED;
-    }
-    part == STACKED
 }

@@ -8,15 +8,11 @@ mod gauge_sizes;
 mod kinds;
 mod units;
 
-pub use kinds::{Kind, runs_across};
+pub use kinds::Kind;
 pub use units::Units;
 
-// The kind byte of an entry: a gauge, or a join of two parts side by side or stacked.
+// The kind byte of a gauge.
 pub const GAUGE: u8 = 1;
-
-pub const BESIDE: u8 = 2;
-
-pub const STACKED: u8 = 3;
 
 // A place between two entries, and what was counted before it: parts on the stack, gauges and sizes.
 #[derive(Clone, Copy, PartialEq, Eq)]
