@@ -1,13 +1,13 @@
 -- Laws of answers: a chain of questions is taken only where each is answered "yes", and is refused only by a check that it asks.
 -- Both hold by cases on the first question.
-use mathlib.Core.Path.{◌≡◌, refl}
+use mathlib.Core.Path.{◌≡◌, refl, sym, ap, ◌∙◌}
 use mathlib.Core.Bool.{Bool, true, false}
-use Prim.Native.Nat.{ℕ, ◌≤◌}
+use Prim.Native.Nat.{ℕ, zero, suc, ◌≤◌}
 use native.Mathlib.Omega.{arith}
 use Rattle.checks.specs.Check.{number_of}
 use Rattle.checks.specs.declared.Check.{Check}
 use Rattle.checks.specs.declared.Check.TheVariants.{Length, Mark, Version, Entries, Present, Kind, SizeCount, Limits, Order, Gauges, Join, OnePart, AtEnd, LevelCount, LevelRange, Opening, Buffers, Output, Fits, LazyList, Place, Rib, Heights}
-use Rattle.checks.specs.Answer.{Answer, refused, taken, ask, next, Asked, also, number}
+use Rattle.checks.specs.Answer.{Answer, refused, taken, ask, next, Asked, also, number, first_no}
 
 -- No check has the number of a taken call.
 pub number_positive : (c : Check) → 1 ≤ number_of c
@@ -86,6 +86,11 @@ module _ {A B : Type 0} where
   next_refused P (refused c) f h k = h
   next_refused P (taken x) f h k = k x
 
+-- A number that is not 0 is the first that is not.
+pub first_wins : (n later : ℕ) → (n ≡ 0 → ⊥) → n ≡ first_no n later
+first_wins zero later other = absurd (other refl)
+first_wins (suc n) later other = refl
+
 module _ {A : Type 0} where
   pub also_taken : (q : Asked) (a : Answer A) (x : A) → also q a ≡ taken x → (q ≡ taken tt) × (a ≡ taken x)
   also_taken (refused c) a x e = absurd (not_both c x e)
@@ -94,3 +99,13 @@ module _ {A : Type 0} where
   pub also_refused : (P : Check → Type 0) (q : Asked) (a : Answer A) → RefusedBy P q → RefusedBy P a → RefusedBy P (also q a)
   also_refused P (refused c) a h k = h
   also_refused P (taken ok) a h k = k
+
+  -- "First no wins": the number of two runs of questions is the first of theirs that is not 0.
+  pub also_number : (q : Asked) (a : Answer A) → first_no (number q) (number a) ≡ number (also q a)
+  also_number (refused c) a = sym (first_wins (number_of c) (number a) (λ e. let h = number_positive c in omega arith))
+  also_number (taken ok) a = refl
+
+  -- So numbers that were asked for one by one give that of the chain.
+  pub also_both : (q : Asked) (a : Answer A) (n m r : ℕ) → n ≡ number q → m ≡ number a → r ≡ first_no n m → r ≡ number (also q a)
+  also_both q a n m r asked later e =
+      e ∙ ap (λ (k : ℕ). first_no k m) asked ∙ ap (first_no (number q)) later ∙ also_number q a

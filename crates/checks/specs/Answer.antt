@@ -1,5 +1,5 @@
 -- What a run of questions answers, as the code has it: the first check that was answered "no", which is an error, or what was taken. Document 01: "First no wins."
-use Rattle.std.specs.Prelude.{Bool, true, false, ℕ, Result}
+use Rattle.std.specs.Prelude.{Bool, true, false, ℕ, zero, suc, Result}
 pub use Rattle.std.specs.Prelude.{Err as refused, Ok as taken}
 use Rattle.checks.specs.Check.{number_of}
 use Rattle.checks.specs.declared.Check.{Check}
@@ -34,3 +34,8 @@ number (taken x) = 0
 abbrev pub outcome : {A B : Type 0} → Answer A → B → (A → B) → B
 outcome (refused c) old f = old
 outcome (taken x) old f = f x
+
+-- Of two numbers of answers the first that is not 0.
+abbrev pub first_no : ℕ → ℕ → ℕ
+first_no zero later = later
+first_no (suc n) later = suc n

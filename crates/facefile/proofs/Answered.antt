@@ -15,7 +15,7 @@ use Rattle.facefile.specs.declared.Face.{Face}
 use Rattle.facefile.specs.declared.Counts.{Counts as Counted}
 use Rattle.facefile.specs.Format.{face_of}
 use Rattle.facefile.specs.Gauge.{gauge_bytes}
-use Rattle.facefile.specs.Summary.{summary, counted}
+use Rattle.facefile.specs.Summary.{refused_face, summary, counted}
 
 -- The tree of a taken file, and its counts.
 pub record Counts (f : Face) (a : Answer Tree) : Type 0 where
@@ -68,3 +68,8 @@ no_gauge file zero h = by (face_of file)
     by (refused c) = refl
     by (taken t) = refl
 no_gauge file (suc k) h = absurd (omega arith)
+
+-- The answer with the number of a check is that of a file which the check refuses.
+pub summary_refused : (f : Face) (n : ℕ) (c : Check) → f ≡ refused_face n → n ≡ number_of c → f ≡ summary (refused c)
+unfolding summary
+summary_refused f n c e h = e ∙ ap refused_face h

@@ -10,11 +10,11 @@ use lib.ListN.{drop}
 use borrow.Author.Tests.{not-true, not-false}
 use Rattle.checks.specs.declared.Check.{Check}
 use Rattle.checks.specs.declared.Check.TheVariants.{Limits, Order}
-use Rattle.checks.specs.Answer.{Answer, refused, taken, ask, Asked}
+use Rattle.checks.specs.Answer.{Answer, refused, taken, ask, Asked, number}
 use Rattle.checks.proofs.Answers.{ask_taken}
 use Rattle.slicing.specs.Item.{Item, height, width}
 use Rattle.sizes.specs.Rules.{Rules, asks_order}
-use Rattle.sizes.specs.GaugeSizes.{limited, ordered, in_order, sizes_after, sizes_from}
+use Rattle.sizes.specs.GaugeSizes.{limited, ordered, in_order, version_rules, sizes_after, sizes_from}
 use Rattle.sizes.specs.inside.Sizes.{asked}
 use Rattle.sizes.proofs.SizeChecks.{limits_no, asked_ask, later, first_size, later_size}
 use Rattle.sizes.proofs.GoodSizes.{limited_true, limited_of, ordered_true}
@@ -94,3 +94,7 @@ unfolding sizes_after
 turn_done rules s at count y i k h r e =
     let none : count - i ≡ 0 = omega arith in
     e ∙ alone (limited y) ∙ (rw none at k.same)
+
+-- In a file of version 1 the number of its sizes' answer is that of the version's rules.
+pub in_version_1 : (v : ℕ) (s : List ℕ) (count n : ℕ) → v ≡ 1 → n ≡ number (sizes_from (version_rules 1) count s) → n ≡ number (sizes_from (version_rules v) count s)
+in_version_1 v s count n one e = rw one e
