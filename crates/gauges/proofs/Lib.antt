@@ -1,3 +1,2 @@
 pub mod FileBytes
 pub mod Sizing
-pub mod Rooms

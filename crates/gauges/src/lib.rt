@@ -1,8 +1,8 @@
 // One gauge written on a page: its bytes in a file of version 2, with the file's header, and its words.
 #![tactic(auto)]
 
-pub mod file_bytes;
-pub mod gauge_words;
-mod places;
+mod file_bytes;
+mod gauge_words;
 
-pub use places::{put_gauge, write_gauge, write_header};
+pub use file_bytes::{write_gauge, write_header};
+pub use gauge_words::put_gauge;

@@ -1,10 +1,11 @@
 -- The reading call's ways out: a refusal leaves the output, and a taken file has its face's words written.
--- Which way it goes is the law of a call that asks for room only, with 3g + 2n words; the first word is stored, and the entries' words after it.
+-- Which way it goes is the law of a call that asks for room only, with 3g + 2n words; the first word is written, and the entries' words after it.
 use mathlib.Core.Path.{◌≡◌, sym, ap, ◌∙◌}
-use mathlib.Core.List.{List, ◌∷◌}
+use mathlib.Core.List.{List, [], ◌∷◌}
 use Prim.Native.Nat.{ℕ, ◌+◌, ◌*◌, ◌-◌, ◌≤◌}
 use native.Mathlib.Omega.{arith}
-use lib.ListN.{length, set, length-set}
+use lib.ListN.{length}
+use Rattle.std.specs.Borrow.{MutBor}
 use Rattle.checks.specs.Limits.{most_gauges, most_sizes}
 use Rattle.checks.specs.declared.Check.{Check}
 use Rattle.checks.specs.Answer.{Answer, refused, taken}
@@ -20,8 +21,10 @@ use Rattle.writing.specs.Words.{list_words}
 use Rattle.written.specs.EntriesOf.{entries_of}
 use Rattle.facewords.specs.Words.{words_of}
 use Rattle.facewords.proofs.WordsOf.{words_count}
-use Rattle.text.specs.inside.Appending.{Appended}
-use Rattle.text.proofs.Appends.{one, same_bytes, joined, appended_length, from_start}
+use Rattle.text.specs.Printing.{Printed}
+use Rattle.text.specs.declared.page.Page.{Page}
+use Rattle.text.specs.inside.Writing.{Fits, Wrote}
+use Rattle.text.proofs.Pages.{blank, blank_fits, blank_printed, same_fit, same_wrote, first_fits, rest_fits, both_wrote}
 use Rattle.saving.specs.inside.Answers.{worded_as}
 use Rattle.saving.specs.Saving.{word_call, worded, word_output, WordPromise}
 use Rattle.saving.proofs.OutputCall.{Few, Passing, few_counts, call_no_room, call_passes}
@@ -59,39 +62,47 @@ module _ (file output : List ℕ) where
       words_taken fits =
           call_passes (face_of file) (file_few file) n read (λ t. length (words_of t)) (length output) count (λ t g s. omega (arith, words_count t)) fits
 
-    module _ (k : Wordable) where
-      pub first_word_room : 1 ≤ length output
+-- The first word is written, and then those of the entries.
+module _ (file : List ℕ) (buffer : MutBor (List ℕ)) (n : Counts) (k : Wordable file buffer.now n) (page : Page ℕ) (empty : page ≡ blank buffer) where
+  all_fit : Fits page ((2 * n.gauges - 1) ∷ entries_of list_words k.tree)
+  unfolding words_of
+  all_fit =
+      same_fit page (words_of k.tree) ((2 * n.gauges - 1) ∷ entries_of list_words k.tree)
+      (ap (λ (m : ℕ). m ∷ entries_of list_words k.tree) (sym k.entries)) (blank_fits buffer page empty (words_of k.tree) k.room)
+
+  pub first_word_room : Fits page ((2 * n.gauges - 1) ∷ [])
+  first_word_room = first_fits page ((2 * n.gauges - 1) ∷ []) (entries_of list_words k.tree) all_fit
+
+  module _ (mid : Page ℕ) (begun : Wrote page ((2 * n.gauges - 1) ∷ []) mid) where
+    pub entries_room : (t : Tree) × (face_of file ≡ taken t) × Fits mid (entries_of list_words t)
+    entries_room = (
+      k.tree,
+      k.face_is,
+      rest_fits page ((2 * n.gauges - 1) ∷ []) (entries_of list_words k.tree) mid begun all_fit,
+    )
+
+    module _ (last : Page ℕ) (put : (t : Tree) → face_of file ≡ taken t → Wrote mid (entries_of list_words t) last) where
+      all_put : Wrote page (words_of k.tree) last
       unfolding words_of
-      first_word_room = let room = k.room in omega arith
+      all_put =
+          same_wrote page ((2 * n.gauges - 1) ∷ entries_of list_words k.tree) (words_of k.tree) last
+          (ap (λ (m : ℕ). m ∷ entries_of list_words k.tree) k.entries)
+          (both_wrote page ((2 * n.gauges - 1) ∷ []) (entries_of list_words k.tree) mid begun last (put k.tree k.face_is))
 
-      pub entries_room : (t : Tree) × (face_of file ≡ taken t) × (1 + length (entries_of list_words t) ≤ length (set output 0 (2 * n.gauges - 1)))
-      unfolding words_of
-      entries_room =
-          let room = k.room in
-          (k.tree, k.face_is, simp length-set (omega arith))
+      module _ (new : List ℕ) (end : new ≡ last.buffer.now) where
+        all : Printed (words_of k.tree) buffer.now new last.at
+        all = blank_printed buffer page empty (words_of k.tree) last all_put new end k.room
 
-      -- The first word is stored, and those of the entries are appended.
-      module _ (new : List ℕ) (next : ℕ) (put : (t : Tree) → face_of file ≡ taken t → Appended (set output 0 (2 * n.gauges - 1)) 1 (entries_of list_words t) new next) where
-        all_put : Appended output 0 (words_of k.tree) new next
-        unfolding words_of
-        all_put =
-            same_bytes (joined (one output 0 (2 * n.gauges - 1)) (put k.tree k.face_is))
-            (ap (λ (m : ℕ). m ∷ entries_of list_words k.tree) k.entries)
-
-        pub words_long : length new ≡ length output
-        words_long = appended_length all_put
-
-        pub words_few : next ≤ 3 * most_gauges + 2 * most_sizes
+        pub words_few : last.at ≤ 3 * most_gauges + 2 * most_sizes
         words_few =
-            let place = all_put.place in
+            let count = all.count in
             let few = k.few in
             omega (arith, words_count k.tree)
 
-        pub words_done : WordPromise (face_of file) output (worded_as (taken next)) new
+        pub words_done : WordPromise (face_of file) buffer.now (worded_as (taken last.at)) new
         unfolding word_call written_over
         words_done =
-            let all = from_start all_put k.room in
             record {
               answered = ap (λ (m : ℕ). worded_as (taken m)) all.count ∙ ap worded (sym k.call);
-              output = all.bytes ∙ ap (λ (a : Answer Tree). word_output a output) (sym k.call);
+              output = all.bytes ∙ ap (λ (a : Answer Tree). word_output a buffer.now) (sym k.call);
             }

@@ -1,10 +1,11 @@
 -- The writing call's ways out: a refusal leaves the output, and taken words have their face's file written.
 -- Which way it goes is the law of a call that asks for room only, with 6 + 3g + 4n bytes; the header is written, and the entries' bytes after it.
 use mathlib.Core.Path.{◌≡◌, sym, ap, ◌∙◌}
-use mathlib.Core.List.{List}
+use mathlib.Core.List.{List, ◌++◌}
 use Prim.Native.Nat.{ℕ, ◌+◌, ◌*◌, ◌-◌, ◌≤◌, ◌<◌}
 use native.Mathlib.Omega.{arith}
 use lib.ListN.{length}
+use Rattle.std.specs.Borrow.{MutBor}
 use Rattle.checks.specs.Limits.{most_gauges, most_sizes}
 use Rattle.checks.specs.declared.Check.{Check}
 use Rattle.checks.specs.Answer.{Answer, refused, taken}
@@ -16,13 +17,15 @@ use Rattle.facefile.specs.Summary.{counted}
 use Rattle.lent.specs.Lent.{written_over}
 use Rattle.lent.specs.Questions.{output_lent}
 use Rattle.lent.proofs.Calling.{refused_by_file}
-use Rattle.written.specs.EntriesOf.{entries_of, entry_count}
+use Rattle.written.specs.EntriesOf.{entries_of}
 use Rattle.written.specs.FileOf.{header_bytes, file_of}
 use Rattle.written.proofs.FileOf.{file_long}
 use Rattle.facewords.specs.Words.{words_face}
 use Rattle.facewords.proofs.WordsOf.{words_taken}
-use Rattle.text.specs.inside.Appending.{Appended}
-use Rattle.text.proofs.Appends.{same_bytes, joined, rest_room, from_start}
+use Rattle.text.specs.Printing.{Printed}
+use Rattle.text.specs.declared.page.Page.{Page}
+use Rattle.text.specs.inside.Writing.{Fits, Wrote}
+use Rattle.text.proofs.Pages.{blank, blank_fits, blank_printed, same_fit, same_wrote, first_fits, rest_fits, both_wrote}
 use Rattle.saving.specs.inside.Answers.{saved_as}
 use Rattle.saving.specs.Saving.{save_call, saved, saved_output, SavePromise}
 use Rattle.saving.proofs.OutputCall.{Few, Passing, few_counts, call_no_room, call_passes}
@@ -64,41 +67,50 @@ module _ (words output : List ℕ) where
       file_taken fits =
           call_passes (words_face words) (words_few words) n read (λ t. length (file_of t)) (length output) count (λ t g s. omega (arith, file_long t)) fits
 
-    module _ (k : Savable) where
-      pub header_room : (2 * n.gauges - 1 < 65_536) × (7 ≤ length output)
-      header_room =
-          let room = k.room in
-          let few = k.few in
-          let gauges = k.gauges in
-          (omega arith, omega (arith, file_long k.tree))
+-- The header is written, and then the entries.
+module _ (words : List ℕ) (buffer : MutBor (List ℕ)) (n : Counts) (k : Savable words buffer.now n) (page : Page ℕ) (empty : page ≡ blank buffer) where
+  all_fit : Fits page (header_bytes (2 * n.gauges - 1) ++ entries_of size_bytes k.tree)
+  unfolding file_of
+  all_fit =
+      same_fit page (file_of k.tree) (header_bytes (2 * n.gauges - 1) ++ entries_of size_bytes k.tree)
+      (ap (λ (m : ℕ). header_bytes m ++ entries_of size_bytes k.tree) (sym k.entries)) (blank_fits buffer page empty (file_of k.tree) k.room)
 
-      -- The header is written, and then the entries.
-      module _ (mid : List ℕ) (at : ℕ) (begun : Appended output 0 (header_bytes (2 * n.gauges - 1)) mid at) where
-        head : Appended output 0 (header_bytes (entry_count k.tree)) mid at
-        head = same_bytes begun (ap header_bytes k.entries)
+  pub header_room : (2 * n.gauges - 1 < 65_536) × Fits page (header_bytes (2 * n.gauges - 1))
+  header_room =
+      let few = k.few in
+      let gauges = k.gauges in
+      (omega arith, first_fits page (header_bytes (2 * n.gauges - 1)) (entries_of size_bytes k.tree) all_fit)
 
-        pub entries_room : (t : Tree) × (words_face words ≡ taken t) × (at + length (entries_of size_bytes t) ≤ length mid)
-        unfolding file_of
-        entries_room =
-            let room = k.room in
-            (k.tree, k.face_is, rest_room output 0 (header_bytes (entry_count k.tree)) (entries_of size_bytes k.tree) (omega arith) mid at head)
+  module _ (mid : Page ℕ) (begun : Wrote page (header_bytes (2 * n.gauges - 1)) mid) where
+    pub entries_room : (t : Tree) × (words_face words ≡ taken t) × Fits mid (entries_of size_bytes t)
+    entries_room = (
+      k.tree,
+      k.face_is,
+      rest_fits page (header_bytes (2 * n.gauges - 1)) (entries_of size_bytes k.tree) mid begun all_fit,
+    )
 
-        module _ (new : List ℕ) (next : ℕ) (put : (t : Tree) → words_face words ≡ taken t → Appended mid at (entries_of size_bytes t) new next) where
-          all_written : Appended output 0 (file_of k.tree) new next
-          unfolding file_of
-          all_written = joined head (put k.tree k.face_is)
+    module _ (last : Page ℕ) (put : (t : Tree) → words_face words ≡ taken t → Wrote mid (entries_of size_bytes t) last) where
+      all_put : Wrote page (file_of k.tree) last
+      unfolding file_of
+      all_put =
+          same_wrote page (header_bytes (2 * n.gauges - 1) ++ entries_of size_bytes k.tree) (file_of k.tree) last
+          (ap (λ (m : ℕ). header_bytes m ++ entries_of size_bytes k.tree) k.entries)
+          (both_wrote page (header_bytes (2 * n.gauges - 1)) (entries_of size_bytes k.tree) mid begun last (put k.tree k.face_is))
 
-          pub file_few : next ≤ 6 + 3 * most_gauges + 4 * most_sizes
-          file_few =
-              let place = all_written.place in
-              let few = k.few in
-              omega (arith, file_long k.tree)
+      module _ (new : List ℕ) (end : new ≡ last.buffer.now) where
+        all : Printed (file_of k.tree) buffer.now new last.at
+        all = blank_printed buffer page empty (file_of k.tree) last all_put new end k.room
 
-          pub file_done : SavePromise (words_face words) output (saved_as (taken next)) new
-          unfolding save_call written_over
-          file_done =
-              let all = from_start all_written k.room in
-              record {
-                answered = ap (λ (m : ℕ). saved_as (taken m)) all.count ∙ ap saved (sym k.call);
-                output = all.bytes ∙ ap (λ (a : Answer Tree). saved_output a output) (sym k.call);
-              }
+        pub file_few : last.at ≤ 6 + 3 * most_gauges + 4 * most_sizes
+        file_few =
+            let count = all.count in
+            let few = k.few in
+            omega (arith, file_long k.tree)
+
+        pub file_done : SavePromise (words_face words) buffer.now (saved_as (taken last.at)) new
+        unfolding save_call written_over
+        file_done =
+            record {
+              answered = ap (λ (m : ℕ). saved_as (taken m)) all.count ∙ ap saved (sym k.call);
+              output = all.bytes ∙ ap (λ (a : Answer Tree). saved_output a buffer.now) (sym k.call);
+            }

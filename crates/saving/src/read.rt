@@ -1,12 +1,12 @@
 // The reading call: a file to words.
-ghost use Rattle.std.specs.Prelude.{◌≡◌, ◌+◌, ◌*◌, ◌≤◌, length};
+ghost use Rattle.std.specs.Prelude.{◌≡◌, ◌+◌, ◌*◌, ◌≤◌};
 ghost use Rattle.checks.specs.Answer.{taken};
 ghost use Rattle.checks.specs.Limits.{most_gauges, most_sizes};
 ghost use Rattle.slicing.specs.Tree.{Tree};
 ghost use Rattle.facefile.specs.Format.{face_of};
 ghost use Rattle.writing.specs.Words.{list_words};
 ghost use Rattle.written.specs.EntriesOf.{entries_of};
-ghost use Rattle.text.specs.inside.Appending.{Appended};
+ghost use Rattle.text.specs.inside.Writing.{Fits, Wrote};
 ghost use Rattle.saving.specs.Saving.{WordPromise};
 ghost use Rattle.saving.specs.inside.Answers.{worded_as};
 
@@ -15,6 +15,7 @@ use checks::Check;
 use facefile::entry::{Entries, Entry};
 use facefile::{Counts, reader};
 use gauges::put_gauge;
+use text::page::Page;
 
 // How many words a face of so many gauges and sizes takes: one, one for each of 2g - 1 entries, one more for each gauge,
 // and two for each size.
@@ -25,22 +26,17 @@ fn word_count(counts: Counts) -> usize
     3 * counts.gauges + 2 * counts.sizes
 }
 
-// The entries of a taken file, in words from a place on. Answers the place after them.
-fn put_entries(output: &mut [u32], start: usize, file: &[u8]) -> usize
-    requires { (t : Tree) × (face_of file.now ≡ taken t) × (start + length (entries_of list_words t) ≤ length output.old) }
-    ensures { (t : Tree) → face_of file.now ≡ taken t → Appended output.old start (entries_of list_words t) output.new result }
+// The entries of a taken file, as words.
+fn put_entries(page: &mut Page<'_, u32>, file: &[u8])
+    requires { (t : Tree) × (face_of file.now ≡ taken t) × Fits page.old (entries_of list_words t) }
+    ensures { (t : Tree) → face_of file.now ≡ taken t → Wrote page.old (entries_of list_words t) page.new }
 {
-    let mut next = start;
     for entry in Entries::of(file) {
         match entry {
-            Entry::Gauge(sizes) => next = put_gauge(output, next, sizes, sizes.len() / 4),
-            Entry::Join(kind) => {
-                output[next] = kind as u32;
-                next += 1;
-            }
+            Entry::Gauge(sizes) => put_gauge(page, sizes, sizes.len() / 4),
+            Entry::Join(kind) => page.put(kind as u32),
         }
     }
-    next
 }
 
 // The checks of the reading call, then the file's words. Answers how many they are.
@@ -49,8 +45,10 @@ fn worded(file: &[u8], output: &mut [u32]) -> Result<u32, Check>
 {
     let counts = reader::counts(file)?;
     lent::output(word_count(counts), output.len())?;
-    output[0] = (2 * counts.gauges - 1) as u32;
-    Ok(put_entries(output, 1, file) as u32)
+    let mut page = Page::new(output);
+    page.put((2 * counts.gauges - 1) as u32);
+    put_entries(&mut page, file);
+    Ok(page.at as u32)
 }
 
 // Checks 1 to 13 on the file, then 18, and then its words from the output's start. A refusal leaves the output as it was.

@@ -1,7 +1,7 @@
--- `saving::read::put_entries` meets its contract: the words of the entries of a taken file are appended.
--- The loop keeps `Putting`, what is left of the file and what is appended so far.
+-- `saving::read::put_entries` meets its contract: the words of the entries of a taken file are written.
+-- The loop keeps `Putting`, what is left of the file and what is written so far.
 use Rattle.saving.proofs.FileEntries.{Putting}
 use Rattle.saving.proofs.read.put_entries.Given as goal
 
 abbrev pub invariant-loop-entry : goal.invariant-loop-entry
-invariant-loop-entry l = Putting l.initial.output l.start l.file l.output l.entry-iterator.rest.now l.next
+invariant-loop-entry l = Putting l.initial.page l.file l.entry-iterator.rest.now l.page

@@ -1,6 +1,7 @@
 -- `saving::read::worded` meets its contract: the answer and the output are as defined, refusals included.
--- Each way out is one of the definition: a check of the file, the output's, or the words written, of which the first is stored here.
+-- Each way out is one of the definition: a check of the file, the output's, or the words written, the number of entries first.
 use native.Mathlib.Omega.{arith}
+use mathlib.Core.Path.{refl}
 use borrow.Author.Rules.{rules}
 use Rattle.std.proofs.lemmas.Result.{err_from_is_err_and}
 use Rattle.saving.proofs.ReadCall.{file_counts, words_no_file, words_no_room, words_taken, first_word_room, entries_room, words_few, words_done}
@@ -19,34 +20,36 @@ returns-in_err-output c =
     let p = err_from_is_err_and c.from_residual-in_err-output.result c.from_residual-in_err-output.ensures.1 in
     rw (p.1, p.2) (words_no_room _ _ _ c.in_ok-counts.ensures _ c.word_count.ensures _ c.in_err-output.ensures)
 
-pub overflow_sub-output : goal.overflow_sub-output
-overflow_sub-output c =
+pub overflow_sub-counts : goal.overflow_sub-counts
+overflow_sub-counts c =
     let k = words_taken _ c.args.output.now _ c.in_ok-counts.ensures _ c.word_count.ensures c.in_ok-output.ensures in
     let some = k.some in
     omega arith
 
-pub overflow_cast-output : goal.overflow_cast-output
-overflow_cast-output c =
+pub overflow_cast-counts : goal.overflow_cast-counts
+overflow_cast-counts c =
     let k = words_taken _ c.args.output.now _ c.in_ok-counts.ensures _ c.word_count.ensures c.in_ok-output.ensures in
     let few = k.few in
     let gauges = k.gauges in
     search rules
 
-pub bounds-output-0 : goal.bounds-output-0
-bounds-output-0 c =
-    first_word_room _ _ _ (words_taken _ c.args.output.now _ c.in_ok-counts.ensures _ c.word_count.ensures c.in_ok-output.ensures)
+pub put-requires : goal.put-requires
+put-requires c =
+    first_word_room _ _ _ (words_taken _ c.args.output.now _ c.in_ok-counts.ensures _ c.word_count.ensures c.in_ok-output.ensures) _ c.new-page.ensures
 
 pub put_entries-requires : goal.put_entries-requires
 put_entries-requires c =
-    entries_room _ _ _ (words_taken _ c.args.output.now _ c.in_ok-counts.ensures _ c.word_count.ensures c.in_ok-output.ensures)
+    let k = words_taken _ c.args.output.now _ c.in_ok-counts.ensures _ c.word_count.ensures c.in_ok-output.ensures in
+    entries_room _ _ _ k _ c.new-page.ensures _ c.put.ensures
 
 pub overflow_cast-result : goal.overflow_cast-result
 overflow_cast-result c =
     let k = words_taken _ c.args.output.now _ c.in_ok-counts.ensures _ c.word_count.ensures c.in_ok-output.ensures in
-    let few = words_few _ c.args.output.now _ k _ _ c.put_entries.ensures in
+    let few = words_few _ _ _ k _ c.new-page.ensures _ c.put.ensures _ c.put_entries.ensures _ refl in
     search rules
 
 pub returns : goal.returns
 returns c =
     let k = words_taken _ c.args.output.now _ c.in_ok-counts.ensures _ c.word_count.ensures c.in_ok-output.ensures in
-    words_done _ _ _ k _ _ c.put_entries.ensures
+    let same = (c.put_entries.ensures k.tree k.face_is).same in
+    words_done _ _ _ k _ c.new-page.ensures _ c.put.ensures _ c.put_entries.ensures _ (search rules)

@@ -1,5 +1,6 @@
 -- `saving::write::saved` meets its contract: the answer and the output are as defined, refusals included.
 -- Each way out is one of the definition: a check of the words, the output's, or the file written, its header first.
+use mathlib.Core.Path.{refl}
 use borrow.Author.Rules.{rules}
 use native.Mathlib.Omega.{arith}
 use Rattle.std.proofs.lemmas.Result.{err_from_is_err_and}
@@ -32,22 +33,22 @@ overflow_cast-counts c =
     let gauges = k.gauges in
     search rules
 
-pub write_header-first-requires : goal.write_header-first-requires
-write_header-first-requires c =
-    header_room _ _ _ (file_taken _ c.args.output.now _ c.in_ok-counts.ensures _ c.file_length.ensures c.in_ok-output.ensures)
+pub write_header-requires : goal.write_header-requires
+write_header-requires c =
+    header_room _ _ _ (file_taken _ c.args.output.now _ c.in_ok-counts.ensures _ c.file_length.ensures c.in_ok-output.ensures) _ c.new-page.ensures
 
 pub write_entries-requires : goal.write_entries-requires
 write_entries-requires c =
     let k = file_taken _ c.args.output.now _ c.in_ok-counts.ensures _ c.file_length.ensures c.in_ok-output.ensures in
-    entries_room _ _ _ k _ _ c.write_header-first.ensures
+    entries_room _ _ _ k _ c.new-page.ensures _ c.write_header.ensures
 
 pub overflow_cast-result : goal.overflow_cast-result
 overflow_cast-result c =
     let k = file_taken _ c.args.output.now _ c.in_ok-counts.ensures _ c.file_length.ensures c.in_ok-output.ensures in
-    let few = file_few _ c.args.output.now _ k _ _ c.write_header-first.ensures _ _ c.write_entries.ensures in
+    let few = file_few _ _ _ k _ c.new-page.ensures _ c.write_header.ensures _ c.write_entries.ensures _ refl in
     search rules
 
 pub returns : goal.returns
 returns c =
     let k = file_taken _ c.args.output.now _ c.in_ok-counts.ensures _ c.file_length.ensures c.in_ok-output.ensures in
-    file_done _ _ _ k _ _ c.write_header-first.ensures _ _ c.write_entries.ensures
+    file_done _ _ _ k _ c.new-page.ensures _ c.write_header.ensures _ c.write_entries.ensures _ (search rules)

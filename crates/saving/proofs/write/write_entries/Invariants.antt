@@ -1,7 +1,7 @@
--- `saving::write::write_entries` meets its contract: the bytes of the entries of taken words are appended.
--- The loop keeps `Writing`, what is left of the words and what is appended so far.
+-- `saving::write::write_entries` meets its contract: the bytes of the entries of taken words are written.
+-- The loop keeps `Writing`, what is left of the words and what is written so far.
 use Rattle.saving.proofs.WordEntries.{Writing}
 use Rattle.saving.proofs.write.write_entries.Given as goal
 
 abbrev pub invariant-loop-entry : goal.invariant-loop-entry
-invariant-loop-entry l = Writing l.initial.output l.start l.words l.output l.entry-iterator.rest.now l.next
+invariant-loop-entry l = Writing l.initial.page l.words l.entry-iterator.rest.now l.page
