@@ -6,7 +6,7 @@ ghost use Rattle.facefile.specs.Format.{rules_of};
 use sizes::field::field;
 
 // Where the first entry begins.
-pub const FIRST_ENTRY: usize = 7;
+pub(crate) const FIRST_ENTRY: usize = 7;
 
 // Whether the sizes of every gauge of a taken file stand in order, since check 9 asked it of them.
 pub fn asks_order(file: &[u8]) -> bool

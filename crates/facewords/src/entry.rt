@@ -5,7 +5,7 @@ ghost use Rattle.slicing.specs.Tree.{Tree};
 ghost use Rattle.facewords.specs.Words.{words_face};
 ghost use Rattle.facewords.specs.inside.Entries.{Stands};
 
-use crate::walk::FIRST_ENTRY;
+use crate::FIRST_ENTRY;
 use entries::Kind;
 
 // An entry: a gauge with the words of its sizes, two a size, or a join of the two newest parts.

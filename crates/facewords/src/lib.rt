@@ -4,8 +4,9 @@
 pub mod entry;
 mod reader;
 mod size;
-pub mod walk;
 mod words;
 
-pub use reader::{counts, read};
-pub use size::size_at;
+pub use reader::counts;
+
+// Where the first entry begins, after the number of entries.
+const FIRST_ENTRY: usize = 1;

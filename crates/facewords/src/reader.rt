@@ -1,14 +1,14 @@
 // All the words of a face: checks 4 to 8 and 10 to 13, as of a file of version 2.
 ghost use Rattle.std.specs.Prelude.{◌≡◌};
-ghost use Rattle.facefile.specs.Summary.{counted, summary};
+ghost use Rattle.facefile.specs.Summary.{counted};
 ghost use Rattle.facewords.specs.Words.{first_word, words_face};
 
-use crate::walk::{FIRST_ENTRY, wide};
+use crate::FIRST_ENTRY;
 use crate::words::Words;
 use checks::Check;
 use entries::entry::read_entries;
+use facefile::Counts;
 use facefile::reader::read_end;
-use facefile::{Counts, Face};
 use sizes::is_within;
 
 // The first word, the number of entries: checks 5 and 4.
@@ -29,13 +29,6 @@ pub fn counts(words: &[u32]) -> Result<Counts, Check>
     ensures { result ≡ counted (words_face words.now) }
 {
     let count = first_word(words)?;
-    let end = read_entries(Words { words }, FIRST_ENTRY, wide(count))?;
+    let end = read_entries(Words { words }, FIRST_ENTRY, count as usize)?;
     read_end(words.len(), end)
-}
-
-// The same as a number with the counts beside it.
-pub fn read(words: &[u32]) -> Face
-    ensures { result ≡ summary (words_face words.now) }
-{
-    Face::from(counts(words))
 }

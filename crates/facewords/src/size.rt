@@ -9,7 +9,7 @@ use checks::Check;
 use sizes::Size;
 
 // The size at a place: its height, then its width.
-pub fn size_at(words: &[u32], at: usize) -> Size
+fn size_at(words: &[u32], at: usize) -> Size
     requires { at + 2 ≤ length words.now }
     ensures { size result.height result.width ≡ size_in_words (drop at words.now) }
 {
