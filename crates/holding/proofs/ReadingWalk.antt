@@ -8,7 +8,9 @@ use native.Mathlib.Omega.{arith}
 use lib.ListN.{length, get_or, set, replicate, length-append, length-map, length-set, get_or-append}
 use lib.Seq.{get_or_at, get_or-set_same, get_or-set_other}
 use Rattle.checks.specs.Limits.{buffer_words, most_sizes}
-use Rattle.std.specs.Prelude.{Option, Some, None}
+use Rattle.std.specs.Prelude.{Option, Some, None, take, slice_get}
+use Rattle.std.proofs.lemmas.List.{take_more_set}
+use Rattle.std.proofs.lemmas.Option.{slice_get_read}
 use Rattle.checks.specs.declared.Check.TheVariants.{LazyList}
 use Rattle.checks.specs.Answer.{refused, taken}
 use Rattle.slicing.specs.Item.{Item, size}
@@ -83,6 +85,16 @@ lies_more l row n x long room k =
           subst (λ (j : ℕ). get_or (set row n x) j d ≡ in_row (get_or (l ++ (size x.m x.p ∷ [])) j (size 0 0))) here
           (get_or-set_same row n x d room ∙ ap in_row (sym (get_or_at l (size x.m x.p) [] (size 0 0) n long))));
     }
+
+-- The newest item in the row, where one is laid out.
+abbrev pub newest : List Laid → ℕ → Option Laid
+newest row n = slice_get (take n row) (length (take n row) - 1)
+
+pub newest_more : (row : List Laid) (n : ℕ) (x : Laid) → n < length row → Some x ≡ newest (set row n x) (n + 1)
+newest_more row n x room =
+    let cut = take_more_set row n x room in
+    let all = length-append (take n row) (x ∷ []) in
+    rw cut (sym (slice_get_read (take n row ++ (x ∷ [])) _ _ x refl (omega arith) (sym (get_or_at (take n row) x [] x _ (omega arith)))))
 
 -- What the walk keeps, come to the record `next` after `count` others, of which `last` is the last.
 pub record Walking (a : List ℕ) (row : List Laid) (e s : List ℕ) (next last count : ℕ) (before : Option Laid) : Type 0 where

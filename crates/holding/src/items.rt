@@ -1,5 +1,5 @@
 // Check 20 on an arena of any contents: one pass over the list that it holds, which lays the items out in a row.
-ghost use Rattle.std.specs.Prelude.{◌≡◌, ◌≤◌, length};
+ghost use Rattle.std.specs.Prelude.{◌≡◌, ◌≤◌, length, option_copied};
 ghost use Rattle.checks.specs.Limits.{buffer_words, most_sizes};
 ghost use Rattle.arena.specs.Arena.{level, m_word};
 ghost use Rattle.arena.specs.Lazy.{lazy_list};
@@ -45,8 +45,8 @@ fn item_at(arena: &[u32], r: usize, sums: &[u32]) -> Item
 }
 
 // Whether an item may follow the one before it, where there is one.
-fn may_follow(before: Option<Item>, item: Item) -> bool
-    ensures { Decides result (Follows before item) }
+fn may_follow(before: Option<&Item>, item: Item) -> bool
+    ensures { Decides result (Follows (option_copied before.entry) item) }
 {
     match before {
         None => true,
@@ -69,13 +69,12 @@ fn lay_out(arena: &[u32], items: &mut [Item]) -> Result<usize, Check>
     let mut next = get(arena, 0, FORWARD) as usize;
     let mut last = 0;
     let mut count = 0;
-    let mut before = None;
     while next != 0 {
         if !may_stand(arena, count, last, next) {
             return Err(Check::LazyList);
         }
         let item = item_at(arena, next, &sums);
-        if !may_follow(before, item) {
+        if !may_follow(items[..count].last(), item) {
             return Err(Check::LazyList);
         }
         if !pass_links(arena, next, &mut due, &mut sums) {
@@ -83,7 +82,6 @@ fn lay_out(arena: &[u32], items: &mut [Item]) -> Result<usize, Check>
         }
         items[count] = item;
         count += 1;
-        before = Some(item);
         last = next;
         next = get(arena, next, FORWARD) as usize;
     }
