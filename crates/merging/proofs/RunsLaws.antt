@@ -98,17 +98,7 @@ nothing_left gap a ho hn hc (x ∷ xs) (y ∷ ys) cs ends e lists =
     (true≢false
     (sym (both_true a ho hn (forward_some a ho x xs lists.older.linked) (forward_some a hn y ys lists.newer.linked)) ∙ e))
 
--- The heads o and n are those that the merge began with.
-module _ (gap : ℕ) (a a' : List ℕ) (ho hn o n : ℕ) (ends ends' : List ℕ) (more : Bool) (g : Goes gap a a' ho hn ends ends') (o_is : o ≡ ho) (n_is : n ≡ hn) (m : more ≡ both_wait a' o n) where
-  at_heads : (P : ℕ → ℕ → Type 0) → P ho hn → P o n
-  at_heads P p = subst (λ (x : ℕ). P x n) (sym o_is) (subst (P ho) (sym n_is) p)
-
-  from_heads : (P : ℕ → ℕ → Type 0) → P o n → P ho hn
-  from_heads P p = subst (λ (x : ℕ). P x hn) o_is (subst (P o) n_is p)
-
-  test : more ≡ both_wait a' ho hn
-  test = from_heads (λ (x : ℕ) (y : ℕ). more ≡ both_wait a' x y) m
-
+module _ (gap : ℕ) (a a' : List ℕ) (ho hn : ℕ) (ends ends' : List ℕ) (more : Bool) (g : Goes gap a a' ho hn ends ends') (m : more ≡ both_wait a' ho hn) where
   pub goes_done : more ≡ false → RunsDone gap a a' ho hn ends ends'
   goes_done over t start =
       let w = g.still t start in
@@ -121,7 +111,7 @@ module _ (gap : ℕ) (a a' : List ℕ) (ho hn o n : ℕ) (ends ends' : List ℕ)
         gives =
             sym (append-nil (carried a' (adjust a' t.result) w.cs))
             ∙ ap (λ (l : List Recorded). carried a' (adjust a' t.result) w.cs ++ l)
-            (sym (nothing_left gap a' ho hn t.result w.xs w.ys w.cs ends' (sym test ∙ over) lists))
+            (sym (nothing_left gap a' ho hn t.result w.xs w.ys w.cs ends' (sym m ∙ over) lists))
             ∙ w.merging.runs.gives;
         confined = w.merging.confined;
         threads = w.merging.threads;
@@ -129,22 +119,19 @@ module _ (gap : ℕ) (a a' : List ℕ) (ho hn o n : ℕ) (ends ends' : List ℕ)
 
   module _ (more_is : more ≡ true) where
     abbrev both : (t : Task gap) → Underway t a ho hn ends → Both t a' ho hn ends'
-    both t start = both_of t a' ho hn ends' (sym test ∙ more_is) (g.still t start)
+    both t start = both_of t a' ho hn ends' (sym m ∙ more_is) (g.still t start)
 
-    pub goes_ready : RunsReady gap a ho hn ends → StepReady gap a' o n ends'
-    goes_ready p = at_heads (λ (x : ℕ) (y : ℕ). StepReady gap a' x y ends') (p.0, both p.0 p.1)
+    pub goes_ready : RunsReady gap a ho hn ends → StepReady gap a' ho hn ends'
+    goes_ready p = (p.0, both p.0 p.1)
 
-    module _ (b ends'' : List ℕ) (d : StepDone gap a' b o n ends' ends'') where
-      done : StepDone gap a' b ho hn ends' ends''
-      done = from_heads (λ (x : ℕ) (y : ℕ). StepDone gap a' b x y ends' ends'') d
-
+    module _ (b ends'' : List ℕ) (d : StepDone gap a' b ho hn ends' ends'') where
       pub goes_turn : Goes gap a b ho hn ends ends''
-      goes_turn = record { still = λ t start. (done t (both t start)).still }
+      goes_turn = record { still = λ t start. (d t (both t start)).still }
 
-      less : RunsReady gap a ho hn ends → waiting b ho hn < waiting a' ho hn
-      less p =
+      pub goes_less : RunsReady gap a ho hn ends → waiting b ho hn < waiting a' ho hn
+      goes_less p =
           let w = both p.0 p.1 in
-          let f = done p.0 w in
+          let f = d p.0 w in
           let old = w.merging.runs.waits.lists in
           let new = f.still.merging.runs.waits.lists in
           let x = counted a' ho (w.r ∷ w.xs) old.older in
@@ -153,9 +140,3 @@ module _ (gap : ℕ) (a a' : List ℕ) (ho hn o n : ℕ) (ends ends' : List ℕ)
           let v = counted b hn f.still.ys new.newer in
           let fewer = f.fewer in
           omega arith
-
-      pub goes_less : (o' n' : ℕ) → o' ≡ o → n' ≡ n → RunsReady gap a ho hn ends → waiting b o' n' < waiting a' o n
-      goes_less o' n' o_same n_same p =
-          subst (λ (x : ℕ). waiting b x n' < waiting a' o n) (sym o_same)
-          (subst (λ (y : ℕ). waiting b o y < waiting a' o n) (sym n_same)
-          (at_heads (λ (x : ℕ) (y : ℕ). waiting b x y < waiting a' x y) (less p)))

@@ -6,7 +6,7 @@ use crate::runs::merge_runs;
 use arena::words::{BACK, store};
 use building::empty::clear_head;
 use splicing::ends::Ends;
-use splicing::rest::Rest;
+use stepping::beside::Beside;
 
 // Makes the list of record 0 the merge of the lists of two heads, with a rib in each sum: whole runs of records change
 // lists at once, and an adjust raises all that it covers. The sums of the heads and of the ends are kept beside the
@@ -17,19 +17,16 @@ pub fn merge(arena: &mut [u32], older: usize, newer: usize, rib: u32)
     ensures { (xs ys : List ℕ) → Mergeable rib arena.old older newer 0 xs ys → Merged rib arena.old arena.new older newer 0 xs ys }
 {
     clear_head(arena, 0);
-    let mut older = Rest {
-        head: older,
-        sums: [0; 9],
-    };
-    let mut newer = Rest {
-        head: newer,
-        sums: [0; 9],
-    };
-    let mut ends = Ends {
+    let ends = Ends {
         lasts: [0; 8],
         sums: [0; 9],
     };
-    merge_runs(arena, &mut older, &mut newer, rib, &mut ends);
-    ends.close(arena);
-    store(arena, 0, BACK, ends.lasts[0] as u32);
+    let mut beside = Beside {
+        olders: [0; 9],
+        newers: [0; 9],
+        ends,
+    };
+    merge_runs(arena, older, newer, rib, &mut beside);
+    beside.ends.close(arena);
+    store(arena, 0, BACK, beside.ends.lasts[0] as u32);
 }

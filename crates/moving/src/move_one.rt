@@ -4,7 +4,7 @@ ghost use Rattle.arena.specs.Arena.{adjust, forward};
 ghost use Rattle.arena.specs.inside.Chain.{Has};
 ghost use Rattle.searching.specs.inside.Cut.{passes};
 ghost use Rattle.splicing.specs.inside.Open.{cut_sums};
-ghost use Rattle.settling.specs.inside.Cached.{CachedIn};
+ghost use Rattle.settling.specs.inside.Cached.{Cached};
 ghost use Rattle.moving.specs.inside.Advance.{RunReady, RunMoved};
 
 use arena::words::{ADJUST, FORWARD, LEVEL, P, get, raise};
@@ -12,7 +12,6 @@ use searching::search::Cut;
 use settling::lift::lift;
 use splicing::ends::Ends;
 use splicing::relink::relink;
-use splicing::rest::Rest;
 
 // The adjusts of a record.
 fn adjusts_of(arena: &[u32], r: usize) -> [u32; 8]
@@ -28,22 +27,28 @@ fn adjusts_of(arena: &[u32], r: usize) -> [u32; 8]
 
 // Moves the first record of a list, after which none passes, behind an open list. It is its own cut: nothing is searched
 // for, and its p alone is raised.
-pub fn move_one(arena: &mut [u32], rest: &mut Rest, key: u32, q: u32, ends: &mut Ends)
-    requires run_ready { RunReady arena.old rest.old.head key ends.old.lasts }
-    requires key_stops { passes arena.old (forward arena.old (forward arena.old rest.old.head 0) 0) key ≡ false }
-    requires cached { CachedIn arena.old rest.old ends.old }
-    ensures run_moved { RunMoved arena.old arena.new rest.old.head key q ends.old.lasts ends.new.lasts }
-    ensures head_kept { rest.new.head ≡ rest.old.head }
-    ensures cached_after { CachedIn arena.new rest.new ends.new }
+pub fn move_one(
+    arena: &mut [u32],
+    head: usize,
+    key: u32,
+    q: u32,
+    sums: &mut [u32; 9],
+    ends: &mut Ends,
+)
+    requires run_ready { RunReady arena.old head key ends.old.lasts }
+    requires key_stops { passes arena.old (forward arena.old (forward arena.old head 0) 0) key ≡ false }
+    requires cached { Cached arena.old head ends.old.lasts sums.old ends.old.sums }
+    ensures run_moved { RunMoved arena.old arena.new head key q ends.old.lasts ends.new.lasts }
+    ensures cached_after { Cached arena.new head ends.new.lasts sums.new ends.new.sums }
 {
-    let r = get(arena, rest.head, FORWARD) as usize;
+    let r = get(arena, head, FORWARD) as usize;
     let links = get(arena, r, LEVEL) as usize;
-    let v = lift(q, rest, ends, links);
+    let v = lift(q, sums, ends, links);
     raise(arena, r, P, v);
     let cut = Cut {
         links,
         lasts: [r; 8],
         adjusts: adjusts_of(arena, r),
     };
-    relink(arena, rest, &cut, ends);
+    relink(arena, head, &cut, sums, ends);
 }

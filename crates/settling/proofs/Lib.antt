@@ -3,4 +3,3 @@ pub mod Raising
 pub mod SettleLaws
 pub mod FrontLaws
 pub mod Settling
-pub mod CachedLaws

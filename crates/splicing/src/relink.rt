@@ -6,7 +6,6 @@ ghost use Rattle.arena.specs.inside.Sums.{RenewedBelow};
 ghost use Rattle.splicing.specs.inside.Open.{relink_one, relink_lowest, FrontReady, FrontMoved, last_sums, cut_sums};
 
 use crate::ends::Ends;
-use crate::rest::Rest;
 use arena::words::{ADJUST, BACK, FORWARD, get, store};
 use searching::search::Cut;
 
@@ -35,20 +34,18 @@ pub fn relink_lowest(arena: &mut [u32], head: usize, from: usize, to: usize, v: 
 
 // Moves the records in front of a list, where it is cut, behind the ends of an open list. The sums of the head and those of
 // the ends are renewed on the way down; link 0 counts for none of them.
-pub fn relink(arena: &mut [u32], rest: &mut Rest, cut: &Cut, ends: &mut Ends)
-    requires { FrontReady arena.old rest.old.head cut.now ends.old }
-    ensures front_moved { FrontMoved arena.old arena.new rest.old.head cut.now ends.old ends.new }
-    ensures head_kept { rest.new.head ≡ rest.old.head }
-    ensures sums_renewed { RenewedBelow (cut_sums cut.now.adjusts) cut.now.links rest.old.sums rest.new.sums }
+pub fn relink(arena: &mut [u32], head: usize, cut: &Cut, sums: &mut [u32; 9], ends: &mut Ends)
+    requires { FrontReady arena.old head cut.now ends.old }
+    ensures front_moved { FrontMoved arena.old arena.new head cut.now ends.old ends.new }
+    ensures sums_renewed { RenewedBelow (cut_sums cut.now.adjusts) cut.now.links sums.old sums.new }
     ensures lasts_renewed { RenewedBelow (last_sums arena.old cut.now.lasts) cut.now.links ends.old.sums ends.new.sums }
 {
-    let head = rest.head;
     for k in (1..cut.links).rev() {
         let to = cut.lasts[k];
         let adjust = cut.adjusts[k];
         relink_one(arena, head, ends.lasts[k], to, k, adjust);
         ends.lasts[k] = to;
-        rest.sums[k] = rest.sums[k + 1].wrapping_add(adjust);
+        sums[k] = sums[k + 1].wrapping_add(adjust);
         ends.sums[k] = ends.sums[k + 1].wrapping_add(get(arena, to, ADJUST + k));
     }
     let to = cut.lasts[0];

@@ -5,4 +5,3 @@ pub mod Confined
 pub mod ThreadLaws
 pub mod NewerStep
 pub mod OlderStep
-pub mod KeptLaws

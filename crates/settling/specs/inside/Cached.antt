@@ -3,18 +3,12 @@ use Rattle.std.specs.Prelude.{◌≡◌, ℕ, ◌+◌, ◌%◌, ◌^◌, List}
 use Rattle.arena.specs.Arena.{adjust}
 use Rattle.arena.specs.Lazy.{sum_from}
 use Rattle.arena.specs.inside.Sums.{Suffixes}
-use Rattle.splicing.specs.declared.ends.Ends.{Ends}
-use Rattle.splicing.specs.declared.rest.Rest.{Rest}
 use Rattle.splicing.specs.inside.Open.{last_sums}
 
 -- The sums of the head h, and those of the last records.
 pub record Cached (a : List ℕ) (h : ℕ) (last heads lasts : List ℕ) : Type 0 where
   pub head : Suffixes (adjust a h) heads
   pub ends : Suffixes (last_sums a last) lasts
-
--- Those of what is left of a list, and of the ends of the open result.
-abbrev pub CachedIn : List ℕ → Rest → Ends → Type 0
-CachedIn a rest ends = Cached a rest.head ends.lasts rest.sums ends.sums
 
 -- A record of level l whose p is raised by v has a true p that is q more under the sums g than it was under f.
 abbrev pub MakesUp : (ℕ → ℕ) → (ℕ → ℕ) → ℕ → ℕ → ℕ → Type 0

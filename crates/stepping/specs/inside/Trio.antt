@@ -4,9 +4,8 @@ use Rattle.arena.specs.Arena.{m_word, adjust}
 use Rattle.arena.specs.inside.Chain.{All, Away}
 use Rattle.arena.specs.inside.Sums.{Suffixes}
 use Rattle.searching.specs.inside.Cut.{Searchable}
-use Rattle.splicing.specs.declared.ends.Ends.{Ends}
-use Rattle.splicing.specs.declared.rest.Rest.{Rest}
 use Rattle.splicing.specs.inside.Open.{OpenLinked, EndsOf, last_sums}
+use Rattle.stepping.specs.declared.beside.Beside.{Beside}
 
 -- The m of a record is 1 or more, and with 1 added it does not leave 32 bits.
 pub record Roomy (a : List ℕ) (x : ℕ) : Type 0 where
@@ -38,6 +37,6 @@ pub record Kept (a : List ℕ) (ho hn : ℕ) (last olders newers lasts : List �
   pub newer : Suffixes (adjust a hn) newers
   pub ends : Suffixes (last_sums a last) lasts
 
--- Those of what is left of both lists, and of the ends of the result.
-abbrev pub KeptIn : List ℕ → Rest → Rest → Ends → Type 0
-KeptIn a older newer ends = Kept a older.head newer.head ends.lasts older.sums newer.sums ends.sums
+-- Those that a merge has there.
+abbrev pub KeptIn : List ℕ → ℕ → ℕ → Beside → Type 0
+KeptIn a ho hn beside = Kept a ho hn beside.ends.lasts beside.olders beside.newers beside.ends.sums

@@ -2,7 +2,6 @@
 -- The calls are those whose effects `Advancing` puts together.
 use mathlib.Core.List.{◌∷◌}
 use Rattle.searching.proofs.CutLaws.{cut_links}
-use Rattle.settling.proofs.CachedLaws.{cached_in}
 use Rattle.moving.proofs.Advancing.{can_settle, can_relink, run, run_cached}
 use Rattle.cutting.proofs.cut_run.cut_run.Goals as goal
 
@@ -41,6 +40,5 @@ returns c =
           let settled' = c.settle.ensures _ _ _ (can_settle _ _ hc _ cs r rs _ w _ cut'.0 _ _ cut'.1) c.requires.cached in
           let spliced' = c.relink.ensures.front_moved hc cs _ _ (can_relink _ _ hc _ cs r rs _ w _ cut'.0 _ _ cut'.1 _ _ settled') in
           run _ _ hc _ cs r rs _ w _ cut'.0 _ _ cut'.1 _ _ settled' _ _ spliced'.relinked _ spliced'.stored;
-      head_kept = c.relink.ensures.head_kept;
-      cached_after = cached_in _ _ _ _ c.relink.ensures.head_kept (run_cached _ _ p.0 _ p.1 p.2 p.3 _ p.4 _ cut.0 _ _ cut.1 _ _ settled _ _ spliced.relinked _ spliced.stored _ _ _ _ c.requires.cached c.relink.ensures.sums_renewed c.relink.ensures.lasts_renewed);
+      cached_after = run_cached _ _ p.0 _ p.1 p.2 p.3 _ p.4 _ cut.0 _ _ cut.1 _ _ settled _ _ spliced.relinked _ spliced.stored _ _ _ _ c.requires.cached c.relink.ensures.sums_renewed c.relink.ensures.lasts_renewed;
     }

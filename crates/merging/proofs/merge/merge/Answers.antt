@@ -14,8 +14,8 @@ merge_runs-requires c =
 pub close-requires : goal.close-requires
 close-requires c = merge_closes _ _ _ _ _ c.clear_head.ensures _ _ c.merge_runs.ensures.runs_done c.requires
 
-pub overflow_cast-ends : goal.overflow_cast-ends
-overflow_cast-ends c =
+pub overflow_cast-beside : goal.overflow_cast-beside
+overflow_cast-beside c =
     let fits = merge_end _ _ _ _ _ c.clear_head.ensures _ _ c.merge_runs.ensures.runs_done c.requires in
     search rules
 

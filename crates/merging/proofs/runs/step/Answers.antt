@@ -1,6 +1,5 @@
 -- `merging::runs::step` meets its contract.
 -- The words it compares are the m of the two first records, and each way out is the step that it calls.
-use mathlib.Core.Path.{refl}
 use native.Mathlib.Omega.{arith}
 use borrow.Author.Rules.{rules}
 use Rattle.merging.proofs.Stepping.{step_older_has, step_newer_has, step_older, step_newer, step_older_done, step_newer_done}
@@ -32,7 +31,6 @@ pub returns-then-get-top : goal.returns-then-get-top
 returns-then-get-top c =
     record {
       step_done = step_older_done _ _ _ _ _ _ _ c.get-r.ensures c.get-s.ensures _ _ c.get-top.ensures c.get.ensures _ _ (let t = c.if-get-top.true in omega arith) c.older_step.ensures.older_done;
-      heads_kept = c.older_step.ensures.heads_kept;
       kept_after = c.older_step.ensures.kept_after;
     }
 
@@ -40,6 +38,5 @@ pub returns-else-get-top : goal.returns-else-get-top
 returns-else-get-top c =
     record {
       step_done = step_newer_done _ _ _ _ _ _ _ c.get-r.ensures c.get-s.ensures _ _ c.get-top.ensures c.get.ensures _ _ (let t = c.if-get-top.false in omega arith) c.newer_step.ensures.newer_done;
-      heads_kept = (refl, c.newer_step.ensures.head_kept);
       kept_after = c.newer_step.ensures.kept_after;
     }

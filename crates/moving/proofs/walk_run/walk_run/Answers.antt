@@ -18,13 +18,13 @@ walk-to-requires c =
 
 pub get-sum-requires : goal.get-sum-requires
 get-sum-requires c =
-    let made : MakesUp (head_sums c.args.arena.now c.args.rest.now.head) (last_sums c.args.arena.now c.args.ends.now.lasts) 1 c.args.q c.lift-v.result = c.lift-v.ensures _ _ c.requires.cached.head c.requires.cached.ends in
+    let made : MakesUp (head_sums c.args.arena.now c.args.head) (last_sums c.args.arena.now c.args.ends.now.lasts) 1 c.args.q c.lift-v.result = c.lift-v.ensures _ _ c.requires.cached.head c.requires.cached.ends in
     let p = c.requires.run_ready in
     ((run_has _ _ p.0 _ p.1 p.2 p.3 _ p.4 c.requires.key_stops _ _ (made) _ _ (c.walk-to.ensures (p.2 ∷ p.3) p.4.list)).2, search rules)
 
 pub relink_lowest-requires : goal.relink_lowest-requires
 relink_lowest-requires c =
-    let made : MakesUp (head_sums c.args.arena.now c.args.rest.now.head) (last_sums c.args.arena.now c.args.ends.now.lasts) 1 c.args.q c.lift-v.result = c.lift-v.ensures _ _ c.requires.cached.head c.requires.cached.ends in
+    let made : MakesUp (head_sums c.args.arena.now c.args.head) (last_sums c.args.arena.now c.args.ends.now.lasts) 1 c.args.q c.lift-v.result = c.lift-v.ensures _ _ c.requires.cached.head c.requires.cached.ends in
     let p = c.requires.run_ready in
     let walked = c.walk-to.ensures (p.2 ∷ p.3) p.4.list in
     record {
@@ -34,7 +34,7 @@ relink_lowest-requires c =
 
 pub returns : goal.returns
 returns c =
-    let made : MakesUp (head_sums c.args.arena.now c.args.rest.now.head) (last_sums c.args.arena.now c.args.ends.now.lasts) 1 c.args.q c.lift-v.result = c.lift-v.ensures _ _ c.requires.cached.head c.requires.cached.ends in
+    let made : MakesUp (head_sums c.args.arena.now c.args.head) (last_sums c.args.arena.now c.args.ends.now.lasts) 1 c.args.q c.lift-v.result = c.lift-v.ensures _ _ c.requires.cached.head c.requires.cached.ends in
     let p = c.requires.run_ready in
     record {
       run_moved = λ hc cs r rs w.

@@ -13,7 +13,7 @@ loop-k-init c = settling_start _ _ _ _ _ _ _ _ c.get-stop.ensures c.requires.3.s
 
 pub get-first-requires : goal.get-first-requires
 get-first-requires c =
-    let head_in : Has c.loop-k.arena c.args.rest.now.head = heads_has _ _ _ _ _ _ _ _ _ _ c.loop-k.invariant _ _ _ c.requires.3 c.requires.4 in
+    let head_in : Has c.loop-k.arena c.args.head = heads_has _ _ _ _ _ _ _ _ _ _ c.loop-k.invariant _ _ _ c.requires.3 c.requires.4 in
     (head_in, search rules)
 
 pub raise_chain-requires : goal.raise_chain-requires
@@ -34,7 +34,7 @@ loop-k-preserved c =
 
 pub get-first-requires-2 : goal.get-first-requires-2
 get-first-requires-2 c =
-    let head_in : Has c.loop-k.arena c.args.rest.now.head = heads_has _ _ _ _ _ _ _ _ _ _ c.loop-k.invariant _ _ _ c.requires.3 c.requires.4 in
+    let head_in : Has c.loop-k.arena c.args.head = heads_has _ _ _ _ _ _ _ _ _ _ c.loop-k.invariant _ _ _ c.requires.3 c.requires.4 in
     (head_in, search rules)
 
 pub raise_lowest-requires : goal.raise_lowest-requires

@@ -5,4 +5,4 @@ use Rattle.settling.proofs.settle.settle.Given as goal
 
 abbrev pub invariant-loop-k : goal.invariant-loop-k
 invariant-loop-k l =
-    Settling l.initial.arena l.arena l.rest.head l.cut.links l.k l.stop l.q l.cut.lasts l.rest.sums l.ends.sums
+    Settling l.initial.arena l.arena l.head l.cut.links l.k l.stop l.q l.cut.lasts l.sums l.ends.sums
