@@ -1,21 +1,19 @@
 // Bytes that stand in a line in hexadecimal.
-ghost use Rattle.std.specs.Prelude.{◌+◌, ◌≤◌, ◌<◌, length, IfSome, OnSome};
+ghost use Rattle.std.specs.Prelude.{◌+◌, ◌≤◌, ◌<◌, length, OnSome};
 
 use crate::line::Line;
 
-// What a byte stands for as a hexadecimal digit.
-fn hex_digit(byte: u8) -> Option<u8>
-    ensures { IfSome result (λ digit. digit < 16) }
-{
+// What a byte stands for as a hexadecimal digit: 16 or more if it is none.
+fn hex_digit(byte: u8) -> u8 {
     match byte {
-        b'0'..=b'9' => Some(byte - b'0'),
-        b'a'..=b'f' => Some(byte - b'a' + 10),
-        _ => None,
+        b'0'..=b'9' => byte - b'0',
+        b'a'.. => byte - b'a' + 10,
+        _ => 16,
     }
 }
 
 impl Line<'_> {
-    // The byte of the two digits that stand next, where they do.
+    // The byte of the two digits that stand next, where the first is one; of another second one it is some byte.
     fn byte(&mut self) -> Option<u8>
         ensures some { OnSome result (length self.new.rest.now < length self.old.rest.now) }
         ensures all { length self.new.rest.now ≤ length self.old.rest.now }
@@ -23,7 +21,11 @@ impl Line<'_> {
         let [high, low, rest @ ..] = self.rest else {
             return None;
         };
-        let byte = 16 * hex_digit(*high)? + hex_digit(*low)?;
+        let high = hex_digit(*high);
+        if high > 15 {
+            return None;
+        }
+        let byte = (16 * high).wrapping_add(hex_digit(*low));
         self.rest = rest;
         Some(byte)
     }

@@ -1,4 +1,5 @@
 pub mod LevelRange
 pub mod Asking
 pub mod Calling
+pub mod CallNumbers
 pub mod Starts
