@@ -17,7 +17,7 @@ use Rattle.sizes.specs.inside.Sizes.{sizes_in}
 use Rattle.sizes.proofs.SizesIn.{from_in, in_same}
 use Rattle.sizes.proofs.GoodSizes.{sizes_taken}
 use Rattle.entries.specs.Entry.{State, entry, entries}
-use Rattle.entries.specs.inside.Kinds.{kind_numbered, Cut, cut_beside, cut_stacked}
+use Rattle.entries.specs.inside.Kinds.{byte_of, kind_numbered, Cut, cut_beside, cut_stacked}
 use Rattle.entries.specs.declared.kinds.Kind.{Kind}
 use Rattle.entries.specs.declared.kinds.Kind.TheVariants.{Gauge, Beside, Stacked}
 use Rattle.entries.proofs.Took.{state, Took, took_gauge, took_join, entry_took, Reads, reads_none, reads_more}
@@ -149,6 +149,12 @@ join_read s u (took_join first cut l a b parts g c) kind bytes e other =
       after = ap (λ (x : List ℕ). state x (cut a b ∷ parts) g) left;
     }
 
+-- A kind's number that is neither a gauge's nor that of a stacked join.
+beside_left : (n : ℕ) → (kind : Kind) × (kind_numbered n ≡ taken kind) → (n ≡ 0x01 → ⊥) → (n ≡ 0x03 → ⊥) → kind_numbered n ≡ taken Beside
+beside_left n (Gauge, is) other not_three = absurd (other (number_is n Gauge is))
+beside_left n (Beside, is) other not_three = is
+beside_left n (Stacked, is) other not_three = absurd (not_three (number_is n Stacked is))
+
 -- The entry that comes in a run, and the run behind it.
 module _ (whole : Answer Tree) (rules : Rules) (begin : State) (face : Tree) (rest : List ℕ) (stack : List Tree) (w : Run whole rules begin face rest stack) where
   abbrev here : State
@@ -201,6 +207,16 @@ module _ (whole : Answer Tree) (rules : Rules) (begin : State) (face : Tree) (re
           two = r.two;
           walk = run_behind some_left bytes (r.cut r.older r.newer ∷ r.rest) w.gauges r.after;
         }
+
+    -- A join of the one kind or of the other, by its number.
+    pub run_stacked : first ≡ 0x03 → JoinNext (Run whole rules begin face) stack rest Stacked bytes
+    run_stacked three =
+        run_join Stacked (rw three refl) (λ (same : Stacked ≡ Gauge). let number = ap byte_of same in omega arith)
+
+    pub run_beside : (first ≡ 0x01 → ⊥) → (first ≡ 0x03 → ⊥) → JoinNext (Run whole rules begin face) stack rest Beside bytes
+    run_beside other not_three =
+        run_join Beside (beside_left first run_kind other not_three)
+        (λ (same : Beside ≡ Gauge). let number = ap byte_of same in omega arith)
 
     module _ (is : kind_numbered first ≡ taken Gauge) where
       pub run_count : bytes ≡ [] → ⊥

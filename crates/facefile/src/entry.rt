@@ -1,12 +1,17 @@
-// The entries of a taken file in turn, for the calls that read it again once it is known to be taken.
-ghost use Rattle.std.specs.Prelude.{◌≡◌, drop};
+// The entries of a taken file in turn, for the calls that read it again once it is known to be taken, and what it says of
+// the sizes of its gauges.
+ghost use Rattle.std.specs.Prelude.{◌≡◌, ◌≤◌, length, drop};
 ghost use Rattle.checks.specs.Answer.{taken};
 ghost use Rattle.slicing.specs.Tree.{Tree};
-ghost use Rattle.facefile.specs.Format.{face_of};
+ghost use Rattle.sizes.specs.Rules.{asks_order};
+ghost use Rattle.facefile.specs.Format.{rules_of, face_of};
 ghost use Rattle.facefile.specs.inside.Entries.{Stands};
 
-use crate::walk::FIRST_ENTRY;
 use entries::Kind;
+use sizes::field::field;
+
+// Where the first entry begins.
+pub(crate) const FIRST_ENTRY: usize = 7;
 
 // An entry: a gauge with the bytes of its sizes, four a size, or a join of the two newest parts.
 #[derive(Clone, Copy)]
@@ -15,21 +20,25 @@ pub enum Entry<'a> {
     Join(Kind),
 }
 
-// The entries that are still to come, as the bytes that are left of the file.
+// The entries of a file that are still to come, which begin at a place.
 #[derive(Drop)]
 pub struct Entries<'a> {
-    pub rest: &'a [u8],
-    ghost stands: { ∥ Stands rest.now ∥₁ },
+    pub file: &'a [u8],
+    pub at: usize,
+    ghost stands: { ∥ Stands (drop at file.now) ∥₁ },
 }
 
 impl<'a> Entries<'a> {
+    ghost use Rattle.facefile.specs.inside.Entries.Gives.{rest_of};
+
     // All entries of a taken file.
     pub fn of(file: &'a [u8]) -> Entries<'a>
         requires { (t : Tree) × (face_of file.now ≡ taken t) }
-        ensures { result.rest.now ≡ drop 7 file.now }
+        ensures { rest_of result ≡ drop 7 file.now }
     {
         Entries {
-            rest: &file[FIRST_ENTRY..],
+            file,
+            at: FIRST_ENTRY,
         }
     }
 }
@@ -37,27 +46,35 @@ impl<'a> Entries<'a> {
 impl<'a> Iterator for Entries<'a> {
     ghost use Rattle.std.specs.Prelude.{length};
     ghost use Rattle.std.specs.Iterator.{at_most};
-    ghost use Rattle.facefile.specs.inside.Entries.Gives.{Gives};
+    ghost use Rattle.facefile.specs.inside.Entries.Gives.{Gives, rest_of};
 
     type Item = Entry<'a>;
 
     ghost next_gives = { Gives };
 
-    ghost remaining = { λ s. at_most (length s.rest.now) };
+    ghost remaining = { λ s. at_most (length (rest_of s)) };
 
     fn next(&mut self) -> Option<Entry<'a>> {
-        let (&kind, behind) = self.rest.split_first()?;
-        match Kind::try_from(kind).ok()? {
-            Kind::Gauge => {
-                let (&count, behind) = behind.split_first()?;
-                let (sizes, behind) = behind.split_at(4 * usize::from(count));
-                self.rest = behind;
-                Some(Entry::Gauge(sizes))
-            }
-            kind => {
-                self.rest = behind;
-                Some(Entry::Join(kind))
-            }
+        let &kind = self.file.get(self.at)?;
+        if kind == Kind::Gauge as u8 {
+            let from = self.at + 2;
+            let to = from + 4 * usize::from(self.file[self.at + 1]);
+            self.at = to;
+            return Some(Entry::Gauge(&self.file[from..to]));
+        }
+        self.at += 1;
+        if kind == Kind::Stacked as u8 {
+            Some(Entry::Join(Kind::Stacked))
+        } else {
+            Some(Entry::Join(Kind::Beside))
         }
     }
+}
+
+// Whether the sizes of every gauge of a taken file stand in order, since check 9 asked it of them.
+pub fn asks_order(file: &[u8]) -> bool
+    requires { 7 ≤ length file.now }
+    ensures { result ≡ asks_order (rules_of file.now) }
+{
+    field(file, 3) == 1
 }

@@ -1,4 +1,4 @@
-// The face file of document 01: checks 1 to 13, what is counted in a taken file, the walk over its entries, and the size
+// The face file of document 01: checks 1 to 13, what is counted in a taken file, its entries in turn, and the size
 // bytes of a gauge.
 #![tactic(auto)]
 
@@ -6,7 +6,6 @@ mod bytes;
 pub mod entry;
 pub mod reader;
 mod size_bytes;
-pub mod walk;
 
 pub use reader::read;
 pub use size_bytes::gauge_bytes;

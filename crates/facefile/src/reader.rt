@@ -6,7 +6,7 @@ ghost use Rattle.entries.specs.inside.Tracking.{Fair};
 ghost use Rattle.facefile.specs.inside.Ending.{Ends};
 
 use crate::bytes::Bytes;
-use crate::walk::FIRST_ENTRY;
+use crate::entry::FIRST_ENTRY;
 use crate::{Counts, Face};
 use checks::Check;
 use entries::Cursor;

@@ -15,21 +15,25 @@ pub enum Entry<'a> {
     Join(Kind),
 }
 
-// The entries that are still to come, as the words that are left.
+// The entries of words that are still to come, which begin at a place.
 #[derive(Drop)]
 pub struct Entries<'a> {
-    pub rest: &'a [u32],
-    ghost stands: { ∥ Stands rest.now ∥₁ },
+    pub words: &'a [u32],
+    pub at: usize,
+    ghost stands: { ∥ Stands (drop at words.now) ∥₁ },
 }
 
 impl<'a> Entries<'a> {
+    ghost use Rattle.facewords.specs.inside.Entries.Gives.{rest_of};
+
     // All entries of taken words.
     pub fn of(words: &'a [u32]) -> Entries<'a>
         requires { (t : Tree) × (words_face words.now ≡ taken t) }
-        ensures { result.rest.now ≡ drop 1 words.now }
+        ensures { rest_of result ≡ drop 1 words.now }
     {
         Entries {
-            rest: &words[FIRST_ENTRY..],
+            words,
+            at: FIRST_ENTRY,
         }
     }
 }
@@ -37,27 +41,27 @@ impl<'a> Entries<'a> {
 impl<'a> Iterator for Entries<'a> {
     ghost use Rattle.std.specs.Prelude.{length};
     ghost use Rattle.std.specs.Iterator.{at_most};
-    ghost use Rattle.facewords.specs.inside.Entries.Gives.{Gives};
+    ghost use Rattle.facewords.specs.inside.Entries.Gives.{Gives, rest_of};
 
     type Item = Entry<'a>;
 
     ghost next_gives = { Gives };
 
-    ghost remaining = { λ s. at_most (length s.rest.now) };
+    ghost remaining = { λ s. at_most (length (rest_of s)) };
 
     fn next(&mut self) -> Option<Entry<'a>> {
-        let (&kind, behind) = self.rest.split_first()?;
-        match Kind::try_from(kind).ok()? {
-            Kind::Gauge => {
-                let (&count, behind) = behind.split_first()?;
-                let (sizes, behind) = behind.split_at(2 * count as usize);
-                self.rest = behind;
-                Some(Entry::Gauge(sizes))
-            }
-            kind => {
-                self.rest = behind;
-                Some(Entry::Join(kind))
-            }
+        let &kind = self.words.get(self.at)?;
+        if kind == Kind::Gauge as u32 {
+            let from = self.at + 2;
+            let to = from + 2 * self.words[self.at + 1] as usize;
+            self.at = to;
+            return Some(Entry::Gauge(&self.words[from..to]));
+        }
+        self.at += 1;
+        if kind == Kind::Stacked as u32 {
+            Some(Entry::Join(Kind::Stacked))
+        } else {
+            Some(Entry::Join(Kind::Beside))
         }
     }
 }

@@ -1,4 +1,4 @@
-// A face as 32-bit words: checks 4 to 8 and 10 to 13, what is counted in taken ones, and the walk over their entries.
+// A face as 32-bit words: checks 4 to 8 and 10 to 13, what is counted in taken ones, and their entries in turn.
 #![tactic(auto)]
 
 pub mod entry;

@@ -31,7 +31,7 @@ use Rattle.useful.specs.inside.Order.{GaugeBytes, order_word, counting_word}
 use Rattle.useful.proofs.FirstDigits.{first_word_is}
 use Rattle.entries.specs.inside.Tracking.{flat}
 use Rattle.facefile.specs.inside.Entries.{Walk, count_of, gauge_of, GaugeNext, JoinNext}
-use Rattle.facefile.specs.inside.Entries.Gives.{Gives}
+use Rattle.facefile.specs.inside.Entries.Gives.{rest_of, Gives}
 use Rattle.sizes.proofs.SizesIn.{in_length}
 use Rattle.facefile.proofs.Taken.{face_taken}
 use Rattle.facefile.proofs.PartArray.{Column, column_start, column_push, column_older, column_newer, column_join}
@@ -69,7 +69,7 @@ file_headed file levels rib a ready = file_long file (ready.tree, ready.face)
 pub file_taken : (file levels : List ℕ) (rib : ℕ) (a : List ℕ) → Buildable file levels rib a → (t : Tree) × (face_of file ≡ taken t)
 file_taken file levels rib a ready = (ready.tree, ready.face)
 
-pub standing_start : (file levels : List ℕ) (rib : ℕ) (a : List ℕ) (kinds : List Kind) (of it : Entries) → Buildable file levels rib a → length kinds ≡ 64 → of.rest.now ≡ drop 7 file → it ≡ of → Standing file levels rib a a kinds it.rest.now 0 0
+pub standing_start : (file levels : List ℕ) (rib : ℕ) (a : List ℕ) (kinds : List Kind) (of it : Entries) → Buildable file levels rib a → length kinds ≡ 64 → rest_of of ≡ drop 7 file → it ≡ of → Standing file levels rib a a kinds (rest_of it) 0 0
 standing_start file levels rib a kinds of it ready long r same =
     record {
       ready = ready;
@@ -84,12 +84,12 @@ standing_start file levels rib a kinds of it ready long r same =
 pub standing_long : (file levels : List ℕ) (rib : ℕ) (a₀ a : List ℕ) (kinds : List Kind) (rest : List ℕ) (parts done : ℕ) → Standing file levels rib a₀ a kinds rest parts done → buffer_words ≤ length a
 standing_long file levels rib a₀ a kinds rest parts done k = let long = k.ready.long in let same = k.length_kept in omega arith
 
-module _ (file levels : List ℕ) (rib : ℕ) (a₀ a : List ℕ) (kinds : List Kind) (parts done : ℕ) (it behind : Entries) (k : Standing file levels rib a₀ a kinds it.rest.now parts done) where
+module _ (file levels : List ℕ) (rib : ℕ) (a₀ a : List ℕ) (kinds : List Kind) (parts done : ℕ) (it behind : Entries) (k : Standing file levels rib a₀ a kinds (rest_of it) parts done) where
   abbrev face : Tree
   face = k.ready.tree
 
   long : buffer_words ≤ length a
-  long = standing_long file levels rib a₀ a kinds it.rest.now parts done k
+  long = standing_long file levels rib a₀ a kinds (rest_of it) parts done k
 
   few_sizes : size_count face ≤ 512
   few_sizes = (face_taken file face k.ready.face).most
@@ -99,7 +99,7 @@ module _ (file levels : List ℕ) (rib : ℕ) (a₀ a : List ℕ) (kinds : List 
       abbrev bytes : List ℕ
       bytes = own_sizes.now
 
-      here : GaugeNext file face k.stack it.rest.now bytes behind.rest.now
+      here : GaugeNext file face k.stack (rest_of it) bytes (rest_of behind)
       here = came_gauge file face k.stack it behind k.walked.walk r came own_sizes e
 
       abbrev count : ℕ
@@ -112,12 +112,12 @@ module _ (file levels : List ℕ) (rib : ℕ) (a₀ a : List ℕ) (kinds : List 
       stack = gauge_of bytes ∷ k.stack
 
       pub gauge_room : parts < 64
-      gauge_room = counted_room file face it.rest.now k.stack parts k.walked behind.rest.now bytes here
+      gauge_room = counted_room file face (rest_of it) k.stack parts k.walked (rest_of behind) bytes here
 
       -- The gauge's sizes have levels, and records.
       pub levels_left : done + count ≤ length levels
       levels_left =
-          let whole = walk_sizes file face behind.rest.now stack here.walk in
+          let whole = walk_sizes file face (rest_of behind) stack here.walk in
           let both = length-append (flat sizes_of k.stack) sizes in
           let many = in_length count bytes in
           let total = parts_total rib levels a k.stack (done + 1) k.stands in
@@ -200,13 +200,13 @@ module _ (file levels : List ℕ) (rib : ℕ) (a₀ a : List ℕ) (kinds : List 
             let end : done + 1 + length sizes ≡ done + count + 1 = omega arith in
             rw (← head, ← end) (loaded_part levels a b (first_head + parts) done own sizes (λ i less. own_at i (omega arith)) d rib)
 
-        pub standing_gauge : (l : List Kind) → l ≡ set kinds parts a_gauge → Standing file levels rib a₀ b l behind.rest.now (parts + 1) (done + count)
+        pub standing_gauge : (l : List Kind) → l ≡ set kinds parts a_gauge → Standing file levels rib a₀ b l (rest_of behind) (parts + 1) (done + count)
         standing_gauge l stored =
             let many = in_length count bytes in
             record {
               ready = k.ready;
               stack = stack;
-              walked = counted_gauge file face it.rest.now k.stack parts k.walked behind.rest.now bytes here;
+              walked = counted_gauge file face (rest_of it) k.stack parts k.walked (rest_of behind) bytes here;
               records = let left = records_left in omega arith;
               length_kept = d.long ∙ k.length_kept;
               kinds_held = column_push a_gauge last_kind kinds k.stack parts k.walked.count k.kinds_held l a_gauge (gauge_of bytes) gauge_room stored refl;
@@ -214,7 +214,7 @@ module _ (file levels : List ℕ) (rib : ℕ) (a₀ a : List ℕ) (kinds : List 
             }
 
     module _ (kind : Kind) (e : r ≡ Join kind) where
-      joining : JoinNext (Walk file face) k.stack it.rest.now kind behind.rest.now
+      joining : JoinNext (Walk file face) k.stack (rest_of it) kind (rest_of behind)
       joining = came_join file face k.stack it behind k.walked.walk r came kind e
 
       abbrev older : Tree
@@ -227,10 +227,10 @@ module _ (file levels : List ℕ) (rib : ℕ) (a₀ a : List ℕ) (kinds : List 
       rest = joining.below
 
       pub join_parts : 2 ≤ parts
-      join_parts = counted_two file face it.rest.now k.stack parts k.walked behind.rest.now kind joining
+      join_parts = counted_two file face (rest_of it) k.stack parts k.walked (rest_of behind) kind joining
 
       below_two : parts - 1 - 1 ≡ length rest
-      below_two = let b = counted_below file face it.rest.now k.stack parts k.walked behind.rest.now kind joining in omega arith
+      below_two = let b = counted_below file face (rest_of it) k.stack parts k.walked (rest_of behind) kind joining in omega arith
 
       newest : parts - 1 - 1 + 1 ≡ suc (length rest)
       newest = let n = below_two in omega arith
@@ -251,10 +251,10 @@ module _ (file levels : List ℕ) (rib : ℕ) (a₀ a : List ℕ) (kinds : List 
       lo = stand.3.0
 
       good : Good newer × Good older
-      good = join_good file face it.rest.now k.stack k.walked.walk kind behind.rest.now joining
+      good = join_good file face (rest_of it) k.stack k.walked.walk kind (rest_of behind) joining
 
       gauges_few : gauge_count older + gauge_count newer ≤ 64
-      gauges_few = join_gauges file face it.rest.now k.stack k.walked.walk kind behind.rest.now joining
+      gauges_few = join_gauges file face (rest_of it) k.stack k.walked.walk kind (rest_of behind) joining
 
       -- Which of the two runs the other way.
       abbrev s : Bool
@@ -338,7 +338,7 @@ module _ (file levels : List ℕ) (rib : ℕ) (a₀ a : List ℕ) (kinds : List 
             subst (λ (i : ℕ). Part levels b (head_of i) lo (done + 1) (part_recorded rib lo (joining.cut older newer))) below_two
             (subst (λ (z : List Recorded). Part levels b (head_of (parts - 1 - 1)) lo (done + 1) z) joined_list done_join.part)
 
-        pub standing_join : (l : List Kind) → l ≡ set kinds (parts - 1 - 1) kind → Standing file levels rib a₀ b l behind.rest.now (parts - 1) done
+        pub standing_join : (l : List Kind) → l ≡ set kinds (parts - 1 - 1) kind → Standing file levels rib a₀ b l (rest_of behind) (parts - 1) done
         standing_join l stored =
             let first = stand.3.1 in
             let second = stand.1 in
@@ -346,7 +346,7 @@ module _ (file levels : List ℕ) (rib : ℕ) (a₀ a : List ℕ) (kinds : List 
             record {
               ready = k.ready;
               stack = joining.cut older newer ∷ rest;
-              walked = counted_join file face it.rest.now k.stack parts k.walked behind.rest.now kind joining;
+              walked = counted_join file face (rest_of it) k.stack parts k.walked (rest_of behind) kind joining;
               records = k.records;
               length_kept = done_join.length_kept ∙ k.length_kept;
               kinds_held =
@@ -357,14 +357,14 @@ module _ (file levels : List ℕ) (rib : ℕ) (a₀ a : List ℕ) (kinds : List 
 
   module _ (r : Option Entry) (none : r ≡ None) (came : Gives it r behind) where
     last_stack : k.stack ≡ face ∷ []
-    last_stack = walk_end file face it.rest.now k.stack k.walked.walk (came_none file face k.stack it behind k.walked.walk r none came)
+    last_stack = walk_end file face (rest_of it) k.stack k.walked.walk (came_none file face k.stack it behind k.walked.walk r none came)
 
     root : Parts rib levels a (face ∷ []) (done + 1)
     root = subst (λ (s : List Tree). Parts rib levels a s (done + 1)) last_stack k.stands
 
     pub standing_whole : (b : List ℕ) (kind : Kind) → Copied a first_head 0 b → kind ≡ get_or kinds 0 a_gauge → (t : Tree) → face_of file ≡ taken t → Whole file levels rib a₀ b kind t
     standing_whole b kind c kind_is t e =
-        let same = walk_face file face it.rest.now k.stack k.walked.walk t e in
+        let same = walk_face file face (rest_of it) k.stack k.walked.walk t e in
         let from : root.0 ≡ 1 = root.3 in
         let to : done + 1 ≡ 1 + size_count face = root.1 ∙ ap (λ (x : ℕ). x + size_count face) from in
         let here : Part levels a first_head 1 (1 + size_count face) (part_recorded rib 1 face) = subst (λ (x : ℕ). Part levels a first_head 1 x (part_recorded rib 1 face)) to (subst (λ (x : ℕ). Part levels a first_head x (done + 1) (part_recorded rib x face)) from root.2) in

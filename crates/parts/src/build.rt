@@ -8,8 +8,7 @@ ghost use Rattle.parts.specs.inside.Building.{Buildable, Whole};
 use crate::heads::{FIRST, copy_head};
 use crate::join::join;
 use entries::Kind;
-use facefile::entry::{Entries, Entry};
-use facefile::walk::asks_order;
+use facefile::entry::{Entries, Entry, asks_order};
 use loading::load::load;
 use useful::order::{in_order, order};
 

@@ -16,7 +16,7 @@ use Rattle.facefile.specs.declared.entry.Entry.{Entry}
 use Rattle.facefile.specs.declared.entry.Entry.TheVariants.{Gauge, Join}
 use Rattle.facefile.specs.declared.entry.Entries.{Entries}
 use Rattle.facefile.specs.inside.Entries.{Walk, count_of, gauge_of, GaugeNext, JoinNext}
-use Rattle.facefile.specs.inside.Entries.Gives.{Gives}
+use Rattle.facefile.specs.inside.Entries.Gives.{rest_of, Gives}
 use Rattle.facefile.proofs.EntryWalk.{walk_start}
 use Rattle.facefile.proofs.EntrySteps.{came_none, came_gauge, came_join}
 use Rattle.writing.specs.Words.{list_words}
@@ -29,14 +29,14 @@ abbrev pub Putting : Page ℕ → List ℕ → List ℕ → Page ℕ → Type 0
 Putting old file rest now = Coding (face_of file) (rules_of file) (start file) list_words old rest now
 
 module _ (old : Page ℕ) (file : List ℕ) where
-  pub putting_start : (of it : Entries) → (t : Tree) × (face_of file ≡ taken t) × Fits old (entries_of list_words t) → of.rest.now ≡ drop 7 file → it ≡ of → Putting old file it.rest.now old
+  pub putting_start : (of it : Entries) → (t : Tree) × (face_of file ≡ taken t) × Fits old (entries_of list_words t) → rest_of of ≡ drop 7 file → it ≡ of → Putting old file (rest_of it) old
   putting_start of it t r same =
       rw (same, r) (coding_start (face_of file) (rules_of file) (start file) list_words old t.0 (drop 7 file) (walk_start file t.0 t.1) t.2)
 
-  module _ (now : Page ℕ) (s u : Entries) (p : Putting old file s.rest.now now) where
+  module _ (now : Page ℕ) (s u : Entries) (p : Putting old file (rest_of s) now) where
     module _ (r : Entry) (came : Gives s (Some r) u) where
       module _ (sizes : Bor (List ℕ)) (e : r ≡ Gauge sizes) where
-        here : GaugeNext file p.face p.stack s.rest.now sizes.now u.rest.now
+        here : GaugeNext file p.face p.stack (rest_of s) sizes.now (rest_of u)
         here = came_gauge file p.face p.stack s u p.walk r came sizes e
 
         abbrev count : ℕ
@@ -46,26 +46,26 @@ module _ (old : Page ℕ) (file : List ℕ) where
         putting_fits = (
           here.few,
           here.sized,
-          gauge_room (face_of file) (rules_of file) (start file) list_words old s.rest.now now p (sizes_in count sizes.now) u.rest.now here.walk,
+          gauge_room (face_of file) (rules_of file) (start file) list_words old (rest_of s) now p (sizes_in count sizes.now) (rest_of u) here.walk,
         )
 
-        pub putting_gauge : (new : Page ℕ) → Wrote now (entries_of list_words (gauge_of sizes.now)) new → Putting old file u.rest.now new
+        pub putting_gauge : (new : Page ℕ) → Wrote now (entries_of list_words (gauge_of sizes.now)) new → Putting old file (rest_of u) new
         putting_gauge =
-            coding_gauge (face_of file) (rules_of file) (start file) list_words old s.rest.now now p (sizes_in count sizes.now) u.rest.now here.walk
+            coding_gauge (face_of file) (rules_of file) (start file) list_words old (rest_of s) now p (sizes_in count sizes.now) (rest_of u) here.walk
 
       module _ (kind : Kind) (e : r ≡ Join kind) where
-        join : JoinNext (Walk file p.face) p.stack s.rest.now kind u.rest.now
+        join : JoinNext (Walk file p.face) p.stack (rest_of s) kind (rest_of u)
         join = came_join file p.face p.stack s u p.walk r came kind e
 
         pub putting_room : Fits now (byte_of kind ∷ [])
         putting_room =
-            join_room (face_of file) (rules_of file) (start file) list_words old s.rest.now now p kind u.rest.now join
+            join_room (face_of file) (rules_of file) (start file) list_words old (rest_of s) now p kind (rest_of u) join
 
-        pub putting_join : (new : Page ℕ) → Wrote now (byte_of kind ∷ []) new → Putting old file u.rest.now new
+        pub putting_join : (new : Page ℕ) → Wrote now (byte_of kind ∷ []) new → Putting old file (rest_of u) new
         putting_join =
-            coding_join (face_of file) (rules_of file) (start file) list_words old s.rest.now now p kind u.rest.now join
+            coding_join (face_of file) (rules_of file) (start file) list_words old (rest_of s) now p kind (rest_of u) join
 
     pub putting_end : (r : Option Entry) → r ≡ None → Gives s r u → (t : Tree) → face_of file ≡ taken t → Wrote old (entries_of list_words t) now
     putting_end r e came =
-        coding_end (face_of file) (rules_of file) (start file) list_words old s.rest.now now p
+        coding_end (face_of file) (rules_of file) (start file) list_words old (rest_of s) now p
         (came_none file p.face p.stack s u p.walk r e came)

@@ -19,7 +19,7 @@ use Rattle.facewords.specs.declared.entry.Entry.{Entry}
 use Rattle.facewords.specs.declared.entry.Entry.TheVariants.{Gauge, Join}
 use Rattle.facewords.specs.declared.entry.Entries.{Entries}
 use Rattle.facewords.specs.inside.Entries.{WordRun, GaugeNext}
-use Rattle.facewords.specs.inside.Entries.Gives.{Gives}
+use Rattle.facewords.specs.inside.Entries.Gives.{rest_of, Gives}
 use Rattle.facewords.proofs.EntryRun.{run_start, came_none, came_gauge, came_join}
 use Rattle.text.specs.declared.page.Page.{Page}
 use Rattle.text.specs.inside.Writing.{Fits, Wrote}
@@ -30,14 +30,14 @@ abbrev pub Writing : Page ℕ → List ℕ → List ℕ → Page ℕ → Type 0
 Writing old words rest now = Coding (words_face words) word_rules (words_start words) size_bytes old rest now
 
 module _ (old : Page ℕ) (words : List ℕ) where
-  pub writing_start : (of it : Entries) → (t : Tree) × (words_face words ≡ taken t) × Fits old (entries_of size_bytes t) → of.rest.now ≡ drop 1 words → it ≡ of → Writing old words it.rest.now old
+  pub writing_start : (of it : Entries) → (t : Tree) × (words_face words ≡ taken t) × Fits old (entries_of size_bytes t) → rest_of of ≡ drop 1 words → it ≡ of → Writing old words (rest_of it) old
   writing_start of it t r same =
       rw (same, r) (coding_start (words_face words) word_rules (words_start words) size_bytes old t.0 (drop 1 words) (run_start words t.0 t.1) t.2)
 
-  module _ (now : Page ℕ) (s u : Entries) (p : Writing old words s.rest.now now) where
+  module _ (now : Page ℕ) (s u : Entries) (p : Writing old words (rest_of s) now) where
     module _ (r : Entry) (came : Gives s (Some r) u) where
       module _ (sizes : Bor (List ℕ)) (e : r ≡ Gauge sizes) where
-        here : GaugeNext words p.face p.stack sizes.now u.rest.now
+        here : GaugeNext words p.face p.stack sizes.now (rest_of u)
         here = came_gauge words p.face p.stack s u p.walk r came sizes e
 
         words_here : GaugeWords sizes.now here.items
@@ -47,26 +47,26 @@ module _ (old : Page ℕ) (words : List ℕ) where
         writing_fits = (
           here.items,
           words_here,
-          gauge_room (words_face words) word_rules (words_start words) size_bytes old s.rest.now now p here.items u.rest.now here.walk,
+          gauge_room (words_face words) word_rules (words_start words) size_bytes old (rest_of s) now p here.items (rest_of u) here.walk,
         )
 
-        pub writing_gauge : (new : Page ℕ) → ((z : List Item) → GaugeWords sizes.now z → Wrote now (entries_of size_bytes (gauge z)) new) → Writing old words u.rest.now new
+        pub writing_gauge : (new : Page ℕ) → ((z : List Item) → GaugeWords sizes.now z → Wrote now (entries_of size_bytes (gauge z)) new) → Writing old words (rest_of u) new
         writing_gauge new put =
-            coding_gauge (words_face words) word_rules (words_start words) size_bytes old s.rest.now now p here.items u.rest.now here.walk new (put here.items words_here)
+            coding_gauge (words_face words) word_rules (words_start words) size_bytes old (rest_of s) now p here.items (rest_of u) here.walk new (put here.items words_here)
 
       module _ (kind : Kind) (e : r ≡ Join kind) where
-        join : JoinNext (WordRun words p.face) p.stack s.rest.now kind u.rest.now
+        join : JoinNext (WordRun words p.face) p.stack (rest_of s) kind (rest_of u)
         join = came_join words p.face p.stack s u p.walk r came kind e
 
         pub writing_room : Fits now (byte_of kind ∷ [])
         writing_room =
-            join_room (words_face words) word_rules (words_start words) size_bytes old s.rest.now now p kind u.rest.now join
+            join_room (words_face words) word_rules (words_start words) size_bytes old (rest_of s) now p kind (rest_of u) join
 
-        pub writing_join : (new : Page ℕ) → Wrote now (byte_of kind ∷ []) new → Writing old words u.rest.now new
+        pub writing_join : (new : Page ℕ) → Wrote now (byte_of kind ∷ []) new → Writing old words (rest_of u) new
         writing_join =
-            coding_join (words_face words) word_rules (words_start words) size_bytes old s.rest.now now p kind u.rest.now join
+            coding_join (words_face words) word_rules (words_start words) size_bytes old (rest_of s) now p kind (rest_of u) join
 
     pub writing_end : (r : Option Entry) → r ≡ None → Gives s r u → (t : Tree) → words_face words ≡ taken t → Wrote old (entries_of size_bytes t) now
     writing_end r e came =
-        coding_end (words_face words) word_rules (words_start words) size_bytes old s.rest.now now p
+        coding_end (words_face words) word_rules (words_start words) size_bytes old (rest_of s) now p
         (came_none words p.face p.stack s u p.walk r e came)

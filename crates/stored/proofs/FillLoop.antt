@@ -26,7 +26,7 @@ use Rattle.entries.specs.inside.Kinds.{byte_of, Cut, cut_beside, cut_stacked}
 use Rattle.sizes.specs.inside.Sizes.{sizes_in}
 use Rattle.entries.specs.inside.Tracking.{flat}
 use Rattle.facefile.specs.inside.Entries.{Walk, count_of, GaugeNext, JoinNext}
-use Rattle.facefile.specs.inside.Entries.Gives.{Gives}
+use Rattle.facefile.specs.inside.Entries.Gives.{rest_of, Gives}
 use Rattle.sizes.proofs.SizesIn.{in_length}
 use Rattle.useful.specs.inside.Order.{GaugeBytes, order_word, counting_word}
 use Rattle.useful.proofs.FirstDigits.{first_word_is}
@@ -54,7 +54,7 @@ filling_head gap file s ready = file_long file (ready.tree, ready.face)
 pub filling_taken : (gap : ℕ) (file s : List ℕ) → Fillable file gap s → (t : Tree) × (face_of file ≡ taken t)
 filling_taken gap file s ready = (ready.tree, ready.face)
 
-pub filling_start : (gap : ℕ) (file s : List ℕ) (of it : Entries) → Fillable file gap s → of.rest.now ≡ drop 7 file → it ≡ of → Filling gap file s s it.rest.now 0 508
+pub filling_start : (gap : ℕ) (file s : List ℕ) (of it : Entries) → Fillable file gap s → rest_of of ≡ drop 7 file → it ≡ of → Filling gap file s s (rest_of it) 0 508
 filling_start gap file s of it ready r same =
     record {
       ready = ready;
@@ -96,7 +96,7 @@ cut_lies : (gap kind : ℕ) (cut : Tree → Tree → Tree) → Cut kind cut → 
 cut_lies gap kind cut cut_beside a b z to e h x y = (h, x, y)
 cut_lies gap kind cut cut_stacked a b z to e h x y = (h, x, y)
 
-module _ (gap : ℕ) (file s₀ s : List ℕ) (part to : ℕ) (it behind : Entries) (k : Filling gap file s₀ s it.rest.now part to) where
+module _ (gap : ℕ) (file s₀ s : List ℕ) (part to : ℕ) (it behind : Entries) (k : Filling gap file s₀ s (rest_of it) part to) where
   abbrev face : Tree
   face = k.ready.tree
 
@@ -106,7 +106,7 @@ module _ (gap : ℕ) (file s₀ s : List ℕ) (part to : ℕ) (it behind : Entri
   place_few : (508 ≤ to) × (to ≤ 15_708)
   place_few =
       let u = k.used_is in
-      let few = used_few gap k.stack (walk_good file face it.rest.now k.stack k.walk) (walk_gauges file face it.rest.now k.stack k.walk) in
+      let few = used_few gap k.stack (walk_good file face (rest_of it) k.stack k.walk) (walk_gauges file face (rest_of it) k.stack k.walk) in
       (omega arith, omega arith)
 
   module _ (r : FileEntry) (came : Gives it (Some r) behind) where
@@ -117,7 +117,7 @@ module _ (gap : ℕ) (file s₀ s : List ℕ) (part to : ℕ) (it behind : Entri
       abbrev count : ℕ
       count = count_of bytes
 
-      abbrev here : GaugeNext file face k.stack it.rest.now bytes behind.rest.now
+      abbrev here : GaugeNext file face k.stack (rest_of it) bytes (rest_of behind)
       here = came_gauge file face k.stack it behind k.walk r came own_sizes e
 
       abbrev sizes : List Item
@@ -126,7 +126,7 @@ module _ (gap : ℕ) (file s₀ s : List ℕ) (part to : ℕ) (it behind : Entri
       pub gauge_part : part + 1 < 128
       gauge_part =
           let total = rows_total gap s to k.stack part k.rows in
-          let few = walk_gauges file face behind.rest.now (gauge sizes ∷ k.stack) here.walk in
+          let few = walk_gauges file face (rest_of behind) (gauge sizes ∷ k.stack) here.walk in
           let one_more = length-append (flat gauges_of k.stack) (sizes ∷ []) in
           omega arith
 
@@ -147,7 +147,7 @@ module _ (gap : ℕ) (file s₀ s : List ℕ) (part to : ℕ) (it behind : Entri
       pub gauge_fits : to + (count + 1) < 65_536
       gauge_fits = let p = place_few in let few = here.few in omega arith
 
-      pub filling_gauge : (z : List ℕ) → GaugeAdded s z part to (to + count) sizes → Filling gap file s₀ z behind.rest.now (part + 1) (to + (count + 1))
+      pub filling_gauge : (z : List ℕ) → GaugeAdded s z part to (to + count) sizes → Filling gap file s₀ z (rest_of behind) (part + 1) (to + (count + 1))
       filling_gauge z added =
           let d = added.added in
           let up = to + (count + 1) in
@@ -180,7 +180,7 @@ module _ (gap : ℕ) (file s₀ s : List ℕ) (part to : ℕ) (it behind : Entri
           }
 
     module _ (join : Kind) (e : r ≡ Join join) where
-      abbrev joining : JoinNext (Walk file face) k.stack it.rest.now join behind.rest.now
+      abbrev joining : JoinNext (Walk file face) k.stack (rest_of it) join (rest_of behind)
       joining = came_join file face k.stack it behind k.walk r came join e
 
       abbrev kind : ℕ
@@ -205,10 +205,10 @@ module _ (gap : ℕ) (file s₀ s : List ℕ) (part to : ℕ) (it behind : Entri
       lo = stand.4.0
 
       good : Good newer × Good older
-      good = join_good file face it.rest.now k.stack k.walk join behind.rest.now joining
+      good = join_good file face (rest_of it) k.stack k.walk join (rest_of behind) joining
 
       gauges_few : gauge_count older + gauge_count newer ≤ 64
-      gauges_few = join_gauges file face it.rest.now k.stack k.walk join behind.rest.now joining
+      gauges_few = join_gauges file face (rest_of it) k.stack k.walk join (rest_of behind) joining
 
       numbers : (mid - 1 ≡ part - 2 * gauge_count newer) × (1 ≤ part) × (2 * gauge_count newer ≤ part) × (part < 127)
       numbers =
@@ -218,7 +218,7 @@ module _ (gap : ℕ) (file s₀ s : List ℕ) (part to : ℕ) (it behind : Entri
           let y = depth_few newer in
           let few = gauges_few in
           let total = rows_total gap s to k.stack part k.rows in
-          let all = walk_gauges file face it.rest.now k.stack k.walk in
+          let all = walk_gauges file face (rest_of it) k.stack k.walk in
           let two = ap length joining.two in
           (omega arith, omega arith, omega arith, omega arith)
 
@@ -288,7 +288,7 @@ module _ (gap : ℕ) (file s₀ s : List ℕ) (part to : ℕ) (it behind : Entri
             (lies_frame gap s z part to (to + n) added.length_kept added.table_kept added.lists_kept (omega arith) newer (part - 1) (let w = numbers.1 in omega arith) stand.3)
             (lies_frame gap s z part to (to + n) added.length_kept added.table_kept added.lists_kept (omega arith) older (part - 2 * gauge_count newer) (let w = numbers.2 in let y = depth_few newer in omega arith) older_stored.1)
 
-        pub filling_join : Filling gap file s₀ z behind.rest.now (part + 1) (to + n)
+        pub filling_join : Filling gap file s₀ z (rest_of behind) (part + 1) (to + n)
         filling_join =
             let back : part ≡ part + 1 - 1 = omega arith in
             let first = stand.1 in
@@ -317,7 +317,7 @@ module _ (gap : ℕ) (file s₀ s : List ℕ) (part to : ℕ) (it behind : Entri
 
   module _ (r : Option FileEntry) (none : r ≡ None) (came : Gives it r behind) where
     last_stack : k.stack ≡ face ∷ []
-    last_stack = walk_end file face it.rest.now k.stack k.walk (came_none file face k.stack it behind k.walk r none came)
+    last_stack = walk_end file face (rest_of it) k.stack k.walk (came_none file face k.stack it behind k.walk r none came)
 
     root : Rows gap s to (face ∷ []) part
     root = subst (λ (x : List Tree). Rows gap s to x part) last_stack k.rows
@@ -327,7 +327,7 @@ module _ (gap : ℕ) (file s₀ s : List ℕ) (part to : ℕ) (it behind : Entri
 
     pub filled : (t : Tree) → face_of file ≡ taken t → Filled gap s₀ s (part - 1) t
     filled t e =
-        let same = walk_face file face it.rest.now k.stack k.walk t e in
+        let same = walk_face file face (rest_of it) k.stack k.walk t e in
         let n = root.1 in
         let alone = root.4 in
         let some = filled_some in

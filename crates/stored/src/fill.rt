@@ -13,8 +13,7 @@ ghost use Rattle.stored.specs.inside.Adding.{Room, PackedBefore, GaugeAdded, Joi
 
 use crate::table::Part;
 use entries::Kind;
-use facefile::entry::{Entries, Entry};
-use facefile::walk::asks_order;
+use facefile::entry::{Entries, Entry, asks_order};
 use packed::item::packed;
 use packed::merge::merge_lists;
 use packed::stretch::Stretch;

@@ -1,56 +1,46 @@
 -- `facefile::entry::Entries::next` meets its contract.
--- Its ways out are those of the run of entries; the three where no entry is found cannot be where bytes are left.
-use mathlib.Core.Path.{refl, ap, ◌∙◌}
-use Prim.Native.Nat.{ℕ, ◌*◌}
-use lib.ListN.{take, drop}
+-- Its ways out are those of the run of entries: where a byte is left it is a kind, and a gauge has its count and its sizes.
+use mathlib.Core.Path.{refl, sym, ◌∙◌}
 use native.Mathlib.Omega.{arith}
-use Rattle.facefile.proofs.EntrySteps.{kind_of_ok, gauge_of_ok, none_left, no_kind, no_count, gives_join, gives_gauge, stands_join, stands_gauge, sizes_present}
+use Rattle.facefile.proofs.EntrySteps.{none_left, gives_stacked, gives_beside, gives_gauge, stands_join, stands_gauge, count_present, sizes_present}
 use Rattle.facefile.proofs.entry.EntriesIterator.next.Goals as goal
 
 pub returns-in_err-kind-clause-steps : goal.returns-in_err-kind-clause-steps
-returns-in_err-kind-clause-steps c = none_left _ _ _ c.from_residual.ensures c.in_err-kind.ensures.cases
+returns-in_err-kind-clause-steps c =
+    let none = c.in_err-kind.ensures.lookup in none_left _ _ _ c.from_residual.ensures (omega arith)
 
-pub returns-in_err-kind-2-clause-steps : goal.returns-in_err-kind-2-clause-steps
-returns-in_err-kind-2-clause-steps c =
-    no_kind _ _ _ _ _ c.in_ok-kind.ensures.cases.0 _ _ c.try_from.ensures c.ok.ensures.value c.in_err-kind-2.was
-
-pub returns-in_err-count-in-Gauge-clause-steps : goal.returns-in_err-count-in-Gauge-clause-steps
-returns-in_err-count-in-Gauge-clause-steps c =
-    let is = gauge_of_ok _ _ c.in_ok-kind.field-0-0.now _ c.try_from.ensures c.ok.ensures.value c.in_ok-kind-2.was c.in-Gauge.is in
-    no_count _ _ _ _ _ c.in_ok-kind.ensures.cases.0 is c.in_err-count-in-Gauge.ensures.cases
-
-pub overflow_mul-from : goal.overflow_mul-from
-overflow_mul-from c =
-    let is = gauge_of_ok _ _ c.in_ok-kind.field-0-0.now _ c.try_from.ensures c.ok.ensures.value c.in_ok-kind-2.was c.in-Gauge.is in
-    let present = sizes_present _ c.args.self.now.stands _ _ c.in_ok-kind.ensures.cases.0 is _ _ c.in_ok-count-in-Gauge.ensures.cases.0 in
-    let shorter = c.in_ok-kind.ensures.cases.1 in
-    let again = c.in_ok-count-in-Gauge.ensures.cases.1 in
-    omega arith
-
-pub split_at-requires : goal.split_at-requires
-split_at-requires c =
-    let is = gauge_of_ok _ _ c.in_ok-kind.field-0-0.now _ c.try_from.ensures c.ok.ensures.value c.in_ok-kind-2.was c.in-Gauge.is in
-    rw c.from.ensures (sizes_present _ c.args.self.now.stands _ _ c.in_ok-kind.ensures.cases.0 is _ _ c.in_ok-count-in-Gauge.ensures.cases.0)
+pub bounds-self-self : goal.bounds-self-self
+bounds-self-self c =
+    let first = c.in_ok-kind.ensures.lookup.3 in
+    count_present _ _ c.args.self.now.stands first.0 (sym (first.1 0) ∙ c.if-kind.true)
 
 pub invariant_of-self : goal.invariant_of-self
 invariant_of-self c =
-    let is = gauge_of_ok _ _ c.in_ok-kind.field-0-0.now _ c.try_from.ensures c.ok.ensures.value c.in_ok-kind-2.was c.in-Gauge.is in
-    let behind = stands_gauge _ c.args.self.now.stands _ _ c.in_ok-kind.ensures.cases.0 is _ _ c.in_ok-count-in-Gauge.ensures.cases.0 in
-    record { stands = rw (c.split_at.ensures.back, c.from.ensures) behind }
+    let first = c.in_ok-kind.ensures.lookup.3 in
+    record { stands = stands_gauge _ _ c.args.self.now.stands first.0 (sym (first.1 0) ∙ c.if-kind.true) _ c.from.ensures }
 
-pub invariant_of-self-in_default : goal.invariant_of-self-in_default
-invariant_of-self-in_default c =
-    let is = kind_of_ok _ _ c.in_ok-kind.field-0-0.now _ c.try_from.ensures c.ok.ensures.value c.in_ok-kind-2.was in
-    record { stands = stands_join _ c.args.self.now.stands _ _ c.in_ok-kind.ensures.cases.0 _ is c.in_default.not-Gauge }
+pub slice_bounds-result-end : goal.slice_bounds-result-end
+slice_bounds-result-end c =
+    let first = c.in_ok-kind.ensures.lookup.3 in
+    let present = sizes_present _ _ c.args.self.now.stands first.0 (sym (first.1 0) ∙ c.if-kind.true) _ c.from.ensures in
+    omega arith
 
-pub returns-in_ok-count-in-Gauge-clause-steps : goal.returns-in_ok-count-in-Gauge-clause-steps
-returns-in_ok-count-in-Gauge-clause-steps c =
-    let is = gauge_of_ok _ _ c.in_ok-kind.field-0-0.now _ c.try_from.ensures c.ok.ensures.value c.in_ok-kind-2.was c.in-Gauge.is in
-    gives_gauge _ _ _ _ c.in_ok-kind.ensures.cases.0 is _ _ c.in_ok-count-in-Gauge.ensures.cases.0 c.split_at.result.0
-    (c.split_at.ensures.front ∙ ap (λ (n : ℕ). take (4 * n) c.in_ok-count-in-Gauge.behind.now) c.from.ensures)
-    (c.split_at.ensures.back ∙ ap (λ (n : ℕ). drop (4 * n) c.in_ok-count-in-Gauge.behind.now) c.from.ensures)
+pub returns-then-kind-clause-steps : goal.returns-then-kind-clause-steps
+returns-then-kind-clause-steps c =
+    let first = c.in_ok-kind.ensures.lookup.3 in
+    gives_gauge _ _ first.0 (sym (first.1 0) ∙ c.if-kind.true) _ c.from.ensures _ refl refl
 
-pub returns-in_default-clause-steps : goal.returns-in_default-clause-steps
-returns-in_default-clause-steps c =
-    let is = kind_of_ok _ _ c.in_ok-kind.field-0-0.now _ c.try_from.ensures c.ok.ensures.value c.in_ok-kind-2.was in
-    gives_join _ _ _ _ c.in_ok-kind.ensures.cases.0 _ is c.in_default.not-Gauge refl
+pub invariant_of-self-2 : goal.invariant_of-self-2
+invariant_of-self-2 c =
+    let first = c.in_ok-kind.ensures.lookup.3 in
+    record { stands = stands_join _ _ c.args.self.now.stands first.0 (λ e. c.if-kind.false (first.1 0 ∙ e)) }
+
+pub returns-then-kind-2-clause-steps : goal.returns-then-kind-2-clause-steps
+returns-then-kind-2-clause-steps c =
+    let first = c.in_ok-kind.ensures.lookup.3 in
+    gives_stacked _ _ first.0 (sym (first.1 0) ∙ c.if-kind-2.true) refl
+
+pub returns-else-kind-2-clause-steps : goal.returns-else-kind-2-clause-steps
+returns-else-kind-2-clause-steps c =
+    let first = c.in_ok-kind.ensures.lookup.3 in
+    gives_beside _ _ first.0 (λ e. c.if-kind.false (first.1 0 ∙ e)) (λ e. c.if-kind-2.false (first.1 0 ∙ e)) refl
