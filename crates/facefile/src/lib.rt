@@ -12,6 +12,7 @@ pub use size_bytes::gauge_bytes;
 
 // What the reader answers: the number of the first check that fails, with the counts 0; or 0, with the counts of
 // gauges and of sizes.
+// The number stands beside the rest and in no `Result`, since document 01 says so of every call (docs/DECISIONS.md).
 #[derive(Clone, Copy)]
 pub struct Face {
     pub number: u32,

@@ -78,7 +78,7 @@ fn filled(file: &[u8], levels: &mut [u8]) -> Result<(), Check>
 }
 
 // Checks 1 to 14, then the levels of the face's sizes in the buffer, which has as many bytes. A refusal leaves the
-// buffer as it was.
+// buffer as it was. It answers a number and no `Result`, since document 01 says so of every call (docs/DECISIONS.md).
 pub fn fill(file: &[u8], levels: &mut [u8]) -> u32
     ensures value { result ≡ number (levels_call (face_of file.now) (length levels.old)) }
     ensures levels_after { levels.new ≡ levels_filled (levels_call (face_of file.now) (length levels.old)) levels.old }

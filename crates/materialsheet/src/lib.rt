@@ -13,6 +13,7 @@ pub use face::print_face;
 pub use printing::sheet;
 
 // What the sheet call answers: the number, and the length of the text, which is 0 where the number is not.
+// The number stands beside the rest and in no `Result`, since document 01 says so of every call (docs/DECISIONS.md).
 #[derive(Clone, Copy)]
 pub struct Printed {
     pub number: u32,

@@ -22,6 +22,7 @@ pub struct Placed {
 
 // What the fit call answers: the number, and of the layout that was written its height, its width and their product,
 // and the length of the root's list. They are 0 where the number is not.
+// The number stands beside the rest and in no `Result`, since document 01 says so of every call (docs/DECISIONS.md).
 #[derive(Clone, Copy)]
 pub struct Fitted {
     pub number: u32,
