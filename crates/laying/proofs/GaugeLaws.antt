@@ -1,11 +1,11 @@
 -- A stored part that can be laid out, and the layout of a gauge: its five words.
--- The word read is that of an item of the gauge's list, which is the printed size of the number read.
+-- The word read is that of an item of the gauge's list, which is the printed size of the number read, and five stores leave the words after them.
 use mathlib.Core.Path.{◌≡◌, refl, sym, ap, ap₂, ◌∙◌}
 use mathlib.Core.Bool.{Bool, true, false, true≢false}
-use mathlib.Core.List.{List, ◌∷◌}
+use mathlib.Core.List.{List, [], ◌∷◌}
 use Prim.Native.Nat.{ℕ, ◌+◌, ◌*◌, ◌/◌, ◌%◌, ◌≤◌, ◌<◌}
 use native.Mathlib.Omega.{arith}
-use lib.ListN.{length, get_or, drop}
+use lib.ListN.{length, get_or, set, drop}
 use Rattle.slicing.specs.Item.{Item, size, height, width}
 use Rattle.slicing.specs.Useful.{index_of, gauge_shapes}
 use Rattle.slicing.specs.Tree.{Tree, gauge, beside, stacked, gauge_count}
@@ -50,6 +50,18 @@ Ready gap s part k x y out = (t : Tree) × Layable gap s part t k x y out
 -- Any such part, laid out, leaves the output as `last`.
 abbrev pub Lays : ℕ → List ℕ → ℕ → ℕ → ℕ → ℕ → List ℕ → List ℕ → Type 0
 Lays gap s part k x y out last = (t : Tree) → Layable gap s part t k x y out → last ≡ laid gap t k x y out
+
+-- The stores of a gauge's five words, and its words.
+five_words : (out : List ℕ) (a b c d e : ℕ) → 5 ≤ length out → set (set (set (set (set out 0 a) 1 b) 2 c) 3 d) 4 e ≡ a ∷ b ∷ c ∷ d ∷ e ∷ drop 5 out
+five_words (v ∷ w ∷ x ∷ y ∷ z ∷ out) a b c d e h = refl
+five_words (v ∷ w ∷ x ∷ y ∷ []) a b c d e h = absurd (omega arith)
+five_words (v ∷ w ∷ x ∷ []) a b c d e h = absurd (omega arith)
+five_words (v ∷ w ∷ []) a b c d e h = absurd (omega arith)
+five_words (v ∷ []) a b c d e h = absurd (omega arith)
+five_words [] a b c d e h = absurd (omega arith)
+
+pub gauge_words : (out : List ℕ) (n x y z w h : ℕ) → 5 ≤ length out → w ≡ z % 65_536 → h ≡ z / 65_536 → set (set (set (set (set out 0 n) 1 x) 2 y) 3 w) 4 h ≡ n ∷ x ∷ y ∷ (z % 65_536) ∷ (z / 65_536) ∷ drop 5 out
+gauge_words out n x y z w h room e f = five_words out n x y w h room ∙ rw (e, f)
 
 module _ {gap : ℕ} {s : List ℕ} {part k x y : ℕ} {out : List ℕ} where
   pub ready_inside : Ready gap s part k x y out → 4 * part + 3 < length s

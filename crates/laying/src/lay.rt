@@ -76,7 +76,12 @@ fn write_gauge(out: &mut [u32], number: u32, at: Corner, size: u32)
     requires { 5 ≤ length out.old }
     ensures { out.new ≡ number ∷ at.x ∷ at.y ∷ (size % 65536) ∷ (size / 65536) ∷ drop 5 out.old }
 {
-    out[..5].copy_from_slice(&[number, at.x, at.y, p_of(size), m_of(size)]);
+    // Stored one by one: a copy of an array of the five, or a chunk of five borrowed first, takes more instructions.
+    out[0] = number;
+    out[1] = at.x;
+    out[2] = at.y;
+    out[3] = p_of(size);
+    out[4] = m_of(size);
 }
 
 // Lays a part out with the item at a place of its shape list, from a corner: first the left or lower part, then the

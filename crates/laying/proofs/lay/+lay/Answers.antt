@@ -1,5 +1,5 @@
 -- `laying::lay::lay` meets its contract.
--- A gauge's words are written at once; at a join each part takes its item and lays itself out, the newer in the stretch after the older's words.
+-- A gauge's five words are stored; at a join each part takes its item and lays itself out, the newer in the stretch after the older's words.
 use mathlib.Core.Path.{◌≡◌, ap}
 use Prim.Native.Nat.{◌+◌, ◌*◌}
 use lib.ListN.{get_or}
