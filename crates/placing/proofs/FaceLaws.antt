@@ -67,6 +67,13 @@ pub record Chosen (gap : ℕ) (file s z : List ℕ) (root : ℕ) (o : Outline) (
   pub root_is : a ≡ stretch_of z root 0x02
   pub picks : (l : List Item) → HasList z a.from l → a.count ≡ length l → Picks o (facing a.across l) found
 
+pub is_chosen : {gap : ℕ} {file s z : List ℕ} {root : ℕ} {o : Outline} {a : Stretch} {found : Option ℕ}
+    → ((t : Tree) → face_of file ≡ taken t → Filled gap s z root t)
+    → a ≡ stretch_of z root 0x02
+    → ((l : List Item) → HasList z a.from l → a.count ≡ length l → Picks o (facing a.across l) found)
+    → Chosen gap file s z root o a found
+is_chosen filled root_is picks = record { filled = filled; root_is = root_is; picks = picks }
+
 module _ {gap : ℕ} {file s z : List ℕ} {root : ℕ} {o : Outline} {a : Stretch} {found : Option ℕ} (chosen : Chosen gap file s z root o a found) where
   face_picks : (t : Tree) → face_of file ≡ taken t → Picks o (shapes gap t) found
   face_picks t e =

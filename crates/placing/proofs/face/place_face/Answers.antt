@@ -4,9 +4,8 @@ use mathlib.Core.Path.{sym, ◌∙◌}
 use native.Mathlib.Omega.{arith}
 use borrow.Author.Rules.{rules}
 use Rattle.std.proofs.lemmas.Result.{err_from_is_err_and}
-use Rattle.slicing.specs.Layout.{outline}
 use Rattle.picking.proofs.Looking.{halves_low}
-use Rattle.placing.proofs.FaceLaws.{some_of, none_of, area_fits, root_ready, root_list, Chosen, face_none, face_place, face_lays, face_counts, face_done}
+use Rattle.placing.proofs.FaceLaws.{some_of, none_of, area_fits, root_ready, root_list, is_chosen, face_none, face_place, face_lays, face_counts, face_done}
 use Rattle.placing.proofs.face.place_face.Goals as goal
 
 pub stretch-list-requires : goal.stretch-list-requires
@@ -19,29 +18,25 @@ pub returns-in_err-place : goal.returns-in_err-place
 returns-in_err-place c =
     let p = err_from_is_err_and c.from_residual.result c.from_residual.ensures.1 in
     let none = none_of _ _ (sym c.ok_or.ensures.value ∙ c.in_err-place.was) in
-    let chosen : Chosen c.args.rib c.args.file.now c.args.scratch.now c.store_lists-root.new.scratch c.store_lists-root.result (outline c.args.opening.height c.args.opening.width)
-    c.stretch-list.result c.pick.result = record { filled = c.store_lists-root.ensures; root_is = c.stretch-list.ensures; picks = c.pick.ensures } in
+    let chosen = is_chosen c.store_lists-root.ensures c.stretch-list.ensures c.pick.ensures in
     rw (p.1, p.2, none.1) (face_none chosen none.0 _)
 
 pub item_at-z-requires : goal.item_at-z-requires
 item_at-z-requires c =
     let some = some_of _ _ (sym c.ok_or.ensures.value ∙ c.in_ok-place.was) in
-    let chosen : Chosen c.args.rib c.args.file.now c.args.scratch.now c.store_lists-root.new.scratch c.store_lists-root.result (outline c.args.opening.height c.args.opening.width)
-    c.stretch-list.result c.pick.result = record { filled = c.store_lists-root.ensures; root_is = c.stretch-list.ensures; picks = c.pick.ensures } in
+    let chosen = is_chosen c.store_lists-root.ensures c.stretch-list.ensures c.pick.ensures in
     face_place chosen some c.requires
 
 pub overflow_cast-count : goal.overflow_cast-count
 overflow_cast-count c =
     let some = some_of _ _ (sym c.ok_or.ensures.value ∙ c.in_ok-place.was) in
-    let chosen : Chosen c.args.rib c.args.file.now c.args.scratch.now c.store_lists-root.new.scratch c.store_lists-root.result (outline c.args.opening.height c.args.opening.width)
-    c.stretch-list.result c.pick.result = record { filled = c.store_lists-root.ensures; root_is = c.stretch-list.ensures; picks = c.pick.ensures } in
+    let chosen = is_chosen c.store_lists-root.ensures c.stretch-list.ensures c.pick.ensures in
     record { fits = face_counts chosen some c.requires }
 
 pub lay-requires : goal.lay-requires
 lay-requires c =
     let some = some_of _ _ (sym c.ok_or.ensures.value ∙ c.in_ok-place.was) in
-    let chosen : Chosen c.args.rib c.args.file.now c.args.scratch.now c.store_lists-root.new.scratch c.store_lists-root.result (outline c.args.opening.height c.args.opening.width)
-    c.stretch-list.result c.pick.result = record { filled = c.store_lists-root.ensures; root_is = c.stretch-list.ensures; picks = c.pick.ensures } in
+    let chosen = is_chosen c.store_lists-root.ensures c.stretch-list.ensures c.pick.ensures in
     face_lays chosen some c.requires
 
 pub overflow_mul-result : goal.overflow_mul-result
@@ -54,6 +49,5 @@ overflow_mul-result c =
 pub returns : goal.returns
 returns c =
     let some = some_of _ _ (sym c.ok_or.ensures.value ∙ c.in_ok-place.was) in
-    let chosen : Chosen c.args.rib c.args.file.now c.args.scratch.now c.store_lists-root.new.scratch c.store_lists-root.result (outline c.args.opening.height c.args.opening.width)
-    c.stretch-list.result c.pick.result = record { filled = c.store_lists-root.ensures; root_is = c.stretch-list.ensures; picks = c.pick.ensures } in
+    let chosen = is_chosen c.store_lists-root.ensures c.stretch-list.ensures c.pick.ensures in
     face_done chosen some c.requires c.item_at-z.ensures c.m_of-height.ensures c.p_of-width.ensures c.lay.ensures
