@@ -20,6 +20,7 @@ pub fn merge_lists(scratch: &mut [u32], a: Stretch, b: Stretch, rib: u32, to: us
     let mut x = a.read(scratch, i);
     let mut y = b.read(scratch, j) + rib;
     let mut at = to;
+    // No `while` says when the merge ends: it does where either list does, in three places, each before a read past it.
     loop {
         let m = m_of(x);
         let n = m_of(y);
