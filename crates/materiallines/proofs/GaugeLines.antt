@@ -1,12 +1,15 @@
 -- What the loop that writes a line for each gauge keeps: the lines of the gauges left complete the lines of all.
 -- A turn writes the line of the first gauge left, and at the end no gauge is left.
-use mathlib.Core.Path.{◌≡◌, sym, ap, subst, ◌∙◌}
+use mathlib.Core.Path.{◌≡◌, sym, ap, ap₂, subst, ◌∙◌}
+use mathlib.Core.Logic.{◌⊎◌, inl, inr}
 use mathlib.Core.List.{List, ◌∷◌, ◌++◌}
-use Prim.Native.Nat.{ℕ, ◌+◌, ◌^◌, ◌≤◌, ◌<◌}
+use Prim.Native.Nat.{ℕ, ◌+◌, ◌-◌, ◌^◌, ◌≤◌, ◌<◌}
 use native.Mathlib.Omega.{arith}
 use lib.ListN.{length, get_or}
 use Rattle.std.specs.declared.slice.ChunksExact.{ChunksExact}
-use Rattle.std.specs.Slice.Iter.{chunks_exact_rest, chunks_exact_size}
+use Rattle.std.specs.Prelude.{None}
+use Rattle.std.specs.declared.ops.RangeFrom.{RangeFrom}
+use Rattle.std.specs.Slice.Iter.{chunks_exact_rest, chunks_exact_size, chunks_exact_steps}
 use Rattle.text.specs.declared.page.Page.{Page}
 use Rattle.text.specs.inside.Writing.{Fits, Wrote}
 use Rattle.text.proofs.Dues.{Due, due_start, due_fits, due_more, due_done}
@@ -44,8 +47,8 @@ gauges_start old layout left five all h =
 abbrev pub line_of : ℕ → List ℕ → List ℕ
 line_of number words = gauge_line number (get_or words 3 0) (get_or words 4 0) (area_of words)
 
-module _ (old : Page ℕ) (layout : List ℕ) (left : ChunksExact ℕ) (number : ℕ) (now : Page ℕ) (s : GaugesDue old layout left number now) where
-  module _ (words : List ℕ) (then : ChunksExact ℕ) (size : chunks_exact_size then ≡ chunks_exact_size left) (next : chunks_exact_rest left ≡ words ++ chunks_exact_rest then) (long : length words ≡ chunks_exact_size left) where
+module _ (old : Page ℕ) (layout : List ℕ) (left : ChunksExact ℕ) (numbers : RangeFrom ℕ) (now : Page ℕ) (s : GaugesDue old layout left numbers.start now) where
+  module _ (number : ℕ) (begin : number ≡ numbers.start) (words : List ℕ) (then : ChunksExact ℕ) (size : chunks_exact_size then ≡ chunks_exact_size left) (next : chunks_exact_rest left ≡ words ++ chunks_exact_rest then) (long : length words ≡ chunks_exact_size left) where
     first : First words (chunks_exact_rest then) s.sizes
     first =
         first_held words (chunks_exact_rest then) s.sizes (long ∙ s.five) (subst (λ (l : List ℕ). Holds l s.sizes) next s.held)
@@ -60,7 +63,7 @@ module _ (old : Page ℕ) (layout : List ℕ) (left : ChunksExact ℕ) (number :
     unfolding gauge_lines
     next_due =
         subst (λ (l : List ℕ). Due old (gauge_lines 1 s.sized.sizes) l now)
-        (ap (gauge_lines number) first.same ∙ ap (λ (l : List ℕ). l ++ gauge_lines (number + 1) first.more) line_same) s.due
+        (ap₂ gauge_lines (sym begin) first.same ∙ ap (λ (l : List ℕ). l ++ gauge_lines (number + 1) first.more) line_same) s.due
 
     pub gauges_area : area_of words < 2 ^ 32
     gauges_area =
@@ -71,11 +74,8 @@ module _ (old : Page ℕ) (layout : List ℕ) (left : ChunksExact ℕ) (number :
     gauges_fit =
         due_fits old (gauge_lines 1 s.sized.sizes) (line_of number words) (gauge_lines (number + 1) first.more) now next_due
 
-    pub number_few : number ≤ 64
-    number_few = let few = s.counted in let some = ap length first.same in omega arith
-
-    pub gauges_more : (new : Page ℕ) → Wrote now (line_of number words) new → GaugesDue old layout then (number + 1) new
-    gauges_more new t =
+    pub gauges_more : (after : ℕ) → after ≡ number + 1 → (new : Page ℕ) → Wrote now (line_of number words) new → GaugesDue old layout then after new
+    gauges_more after one new t =
         record {
           five = size ∙ s.five;
           sized = s.sized;
@@ -83,14 +83,17 @@ module _ (old : Page ℕ) (layout : List ℕ) (left : ChunksExact ℕ) (number :
           held = first.held;
           limited = limited_later first.size first.more all_limited;
           counted = let few = s.counted in let some = ap length first.same in omega arith;
-          due = due_more old (gauge_lines 1 s.sized.sizes) (line_of number words) (gauge_lines (number + 1) first.more) now next_due new t;
+          due = rw one (due_more old (gauge_lines 1 s.sized.sizes) (line_of number words) (gauge_lines (number + 1) first.more) now next_due new t);
         }
 
-  pub gauges_done : length (chunks_exact_rest left) < chunks_exact_size left → (l : List Item) → Holds layout l → Wrote old (gauge_lines 1 l) now
+  -- The numbers do not end, so it is the words that do.
+  pub gauges_done : ((n : RangeFrom ℕ) × ((4_294_967_295 - numbers.start ≡ 0) × (n ≡ numbers))) ⊎ ((t : ChunksExact ℕ) × chunks_exact_steps left None t) → (l : List Item) → Holds layout l → Wrote old (gauge_lines 1 l) now
   unfolding gauge_lines
-  gauges_done end l held =
+  gauges_done (inl none) l held = absurd (let few = s.counted in let last = none.1.0 in omega arith)
+  gauges_done (inr end) l held =
       let five = s.five in
+      let few = end.1.1.0 in
       let none = none_held (chunks_exact_rest left) s.sizes (omega arith) s.held in
-      let due = subst (λ (rest : List Item). Due old (gauge_lines 1 s.sized.sizes) (gauge_lines number rest) now) none s.due in
+      let due = subst (λ (rest : List Item). Due old (gauge_lines 1 s.sized.sizes) (gauge_lines numbers.start rest) now) none s.due in
       subst (λ (all : List Item). Wrote old (gauge_lines 1 all) now) (holds_same layout s.sized.sizes l s.sized.held held)
       (due_done old (gauge_lines 1 s.sized.sizes) now due)

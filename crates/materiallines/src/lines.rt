@@ -23,11 +23,9 @@ pub fn write_gauges(page: &mut Page<'_, u8>, layout: &[u32])
     requires { Listable page.old layout.now }
     ensures { (sizes : List Item) → Holds layout.now sizes → Wrote page.old (gauge_lines 1 sizes) page.new }
 {
-    let mut number = 1;
-    for words in layout.chunks_exact(5) {
+    for (number, words) in (1..).zip(layout.chunks_exact(5)) {
         let width = words[3];
         let height = words[4];
         write_gauge(page, number, width, height, height * width);
-        number += 1;
     }
 }

@@ -1,12 +1,15 @@
 -- What the loops that write a line for each group of words keep: the lines of the groups left complete the lines of all.
 -- A turn writes the line of the first group left, and at the end fewer words are left than make a group.
-use mathlib.Core.Path.{◌≡◌, refl, sym, ap, subst, ◌∙◌}
+use mathlib.Core.Path.{◌≡◌, refl, sym, ap, ap₂, subst, ◌∙◌}
+use mathlib.Core.Logic.{◌⊎◌, inl, inr}
 use mathlib.Core.List.{List, [], ◌∷◌, ◌++◌}
-use Prim.Native.Nat.{ℕ, ◌+◌, ◌/◌, ◌≤◌, ◌<◌}
+use Prim.Native.Nat.{ℕ, ◌+◌, ◌-◌, ◌/◌, ◌≤◌, ◌<◌}
 use native.Mathlib.Omega.{arith}
 use lib.ListN.{length, get_or, length-append}
 use Rattle.std.specs.declared.slice.ChunksExact.{ChunksExact}
-use Rattle.std.specs.Slice.Iter.{chunks_exact_rest, chunks_exact_size}
+use Rattle.std.specs.Prelude.{None}
+use Rattle.std.specs.declared.ops.RangeFrom.{RangeFrom}
+use Rattle.std.specs.Slice.Iter.{chunks_exact_rest, chunks_exact_size, chunks_exact_steps}
 use Rattle.text.specs.declared.page.Page.{Page}
 use Rattle.text.specs.inside.Writing.{Fits, Wrote}
 use Rattle.text.proofs.Dues.{Due, due_start, due_fits, due_more, due_done}
@@ -104,35 +107,31 @@ first_gauge number (a ∷ b ∷ c ∷ []) l five = absurd (omega arith)
 first_gauge number (a ∷ b ∷ c ∷ d ∷ []) l five = absurd (omega arith)
 first_gauge number (a ∷ b ∷ c ∷ d ∷ e ∷ f ∷ words) l five = absurd (omega arith)
 
-module _ (old : Page ℕ) (layout : List ℕ) (left : ChunksExact ℕ) (number : ℕ) (now : Page ℕ) (s : GaugesDue old layout left number now) where
-  module _ (words : List ℕ) (then : ChunksExact ℕ) (size : chunks_exact_size then ≡ chunks_exact_size left) (next : chunks_exact_rest left ≡ words ++ chunks_exact_rest then) (long : length words ≡ chunks_exact_size left) where
+module _ (old : Page ℕ) (layout : List ℕ) (left : ChunksExact ℕ) (numbers : RangeFrom ℕ) (now : Page ℕ) (s : GaugesDue old layout left numbers.start now) where
+  module _ (number : ℕ) (first : number ≡ numbers.start) (words : List ℕ) (then : ChunksExact ℕ) (size : chunks_exact_size then ≡ chunks_exact_size left) (next : chunks_exact_rest left ≡ words ++ chunks_exact_rest then) (long : length words ≡ chunks_exact_size left) where
     next_gauge : Due old (gauge_lines 1 layout) (gauge_of number words ++ gauge_lines (number + 1) (chunks_exact_rest then)) now
     next_gauge =
         subst (λ (l : List ℕ). Due old (gauge_lines 1 layout) l now)
-        (ap (gauge_lines number) next ∙ first_gauge number words (chunks_exact_rest then) (long ∙ s.five)) s.due
+        (ap₂ gauge_lines (sym first) next ∙ first_gauge number words (chunks_exact_rest then) (long ∙ s.five)) s.due
 
     pub gauge_fits : Fits now (gauge_of number words)
     gauge_fits = due_fits old (gauge_lines 1 layout) (gauge_of number words) (gauge_lines (number + 1) (chunks_exact_rest then)) now next_gauge
 
-    rest_long : length (chunks_exact_rest left) ≡ 5 + length (chunks_exact_rest then)
-    rest_long =
+    pub gauges_more : (after : ℕ) → after ≡ number + 1 → (new : Page ℕ) → Wrote now (gauge_of number words) new → GaugesDue old layout then after new
+    gauges_more after one new t =
         let five = s.five in
-        omega (arith, ap length next ∙ length-append words (chunks_exact_rest then))
-
-    pub number_few : number ≤ 64
-    number_few = let counted = s.counted in omega (arith, rest_long)
-
-    pub gauges_more : (new : Page ℕ) → Wrote now (gauge_of number words) new → GaugesDue old layout then (number + 1) new
-    gauges_more new t =
         let counted = s.counted in
         record {
           five = size ∙ s.five;
-          counted = omega (arith, rest_long);
-          due = due_more old (gauge_lines 1 layout) (gauge_of number words) (gauge_lines (number + 1) (chunks_exact_rest then)) now next_gauge new t;
+          counted = omega (arith, ap length next ∙ length-append words (chunks_exact_rest then));
+          due = rw one (due_more old (gauge_lines 1 layout) (gauge_of number words) (gauge_lines (number + 1) (chunks_exact_rest then)) now next_gauge new t);
         }
 
-  pub gauges_done : length (chunks_exact_rest left) < chunks_exact_size left → Wrote old (gauge_lines 1 layout) now
-  gauges_done end =
+  -- The numbers do not end, so it is the words that do.
+  pub gauges_done : ((n : RangeFrom ℕ) × ((4_294_967_295 - numbers.start ≡ 0) × (n ≡ numbers))) ⊎ ((t : ChunksExact ℕ) × chunks_exact_steps left None t) → Wrote old (gauge_lines 1 layout) now
+  gauges_done (inl none) = absurd (let counted = s.counted in let last = none.1.0 in omega arith)
+  gauges_done (inr end) =
       let five = s.five in
+      let few = end.1.1.0 in
       due_done old (gauge_lines 1 layout) now
-      (subst (λ (l : List ℕ). Due old (gauge_lines 1 layout) l now) (few_lines number (chunks_exact_rest left) (omega arith)) s.due)
+      (subst (λ (l : List ℕ). Due old (gauge_lines 1 layout) l now) (few_lines numbers.start (chunks_exact_rest left) (omega arith)) s.due)

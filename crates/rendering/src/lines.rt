@@ -51,9 +51,7 @@ pub fn write_gauges(page: &mut Page<'_, u8>, layout: &[u32])
     requires { (length layout.now ≤ 320) × Fits page.old (gauge_lines 1 layout.now) }
     ensures { Wrote page.old (gauge_lines 1 layout.now) page.new }
 {
-    let mut number = 1;
-    for words in layout.chunks_exact(5) {
+    for (number, words) in (1..).zip(layout.chunks_exact(5)) {
         write_gauge(page, number, words[0], words[1], words[2]);
-        number += 1;
     }
 }

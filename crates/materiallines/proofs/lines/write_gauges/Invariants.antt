@@ -3,7 +3,7 @@
 use Rattle.materiallines.proofs.GaugeLines.{GaugesDue}
 use Rattle.materiallines.proofs.lines.write_gauges.Given as goal
 
-abbrev pub invariant-loop-words : goal.invariant-loop-words
-invariant-loop-words l =
-    (goal.iterator-loop-words).can_next l.words-iterator × (goal.iterator-loop-words).is_finite l.words-iterator
-    × GaugesDue l.initial.page l.layout l.words-iterator l.number l.page
+abbrev pub invariant-loop-number : goal.invariant-loop-number
+invariant-loop-number l =
+    (goal.iterator-loop-number).can_next l.number-iterator × (goal.iterator-loop-number).is_finite l.number-iterator
+    × GaugesDue l.initial.page l.layout l.number-iterator.b l.number-iterator.a.start l.page
