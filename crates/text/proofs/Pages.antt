@@ -53,8 +53,3 @@ module _ (buffer : MutBor (List ℕ)) (p : Page ℕ) (empty : p ≡ blank buffer
 
     pub blank_counted : (most : ℕ) → length bytes ≤ most → most ≤ length buffer.now → Counted most new q.at
     blank_counted most few room = counted blank_wrote few room
-
--- What was written on a page, as what is left of its buffer.
-pub wrote_at : {A : Type 0} (p : Page A) (values : List A) (q : Page A) → Wrote p values q → (new : List A) → new ≡ q.buffer.now → Appended p.buffer.now p.at values new q.at
-wrote_at {A} p values q s new end =
-    subst (λ (l : List A). Appended p.buffer.now p.at values l q.at) (sym end) s.appended
