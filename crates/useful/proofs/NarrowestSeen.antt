@@ -1,20 +1,20 @@
 -- The narrowest size lower than a height, among the sizes that have been looked at.
 -- The best so far is no worse than any of these, and where the next is the first that is lower, or narrower, it is so too.
 use mathlib.Core.Path.{◌≡◌, refl, sym, ap, subst, ◌∙◌}
-use mathlib.Core.Bool.{Bool, true, false, true≢false}
-use Rattle.std.specs.Prelude.{Option, Some, None, MatchOption}
+use mathlib.Core.Bool.{Bool, true, false, cond, true≢false}
+use Rattle.std.specs.Prelude.{Option, Some, None}
 use mathlib.Core.List.{List}
 use Prim.Native.Nat.{ℕ, ◌+◌, ◌≤◌, ◌<◌}
 use native.Mathlib.Omega.{arith}
 use lib.ListN.{length}
 use lib.Dec.{ltb}
-use borrow.Author.Tests.{ltb-true, ltb-false}
+use borrow.Author.Tests.{ltb-true, ltb-false, lt-ltb}
 use Rattle.slicing.specs.Item.{Item, size, height, width}
 use Rattle.sizes.specs.inside.Sizes.{sizes_in, SizeIn}
 use Rattle.sizes.specs.declared.Size.{Size}
 use Rattle.sizes.proofs.SizesIn.{in_length}
 use Rattle.useful.specs.inside.Narrowest.{size_no, narrower, Narrowest, NextBelow}
-use Rattle.useful.proofs.NoWorse.{NoWorse, Narrower, narrower_true, narrower_false}
+use Rattle.useful.proofs.NoWorse.{NoWorse, Narrower, narrower_true, narrower_false, narrower_yes}
 
 -- The height and the width that the code holds, as an item.
 abbrev held : Size → Item
@@ -39,6 +39,10 @@ Seen s h k (Some b) = Taken s h (held b.1) b.0 k × BestOf s h k (held b.1)
 pub record Best (s : List Item) (h : ℕ) (best : Option (ℕ × Size)) (k : ℕ) : Type 0 where
   pub inside : k ≤ length s
   seen : Seen s h k best
+
+-- The size that the code holds, with its place, where it is one: no size is as wide as that which it begins with.
+abbrev pub chosen : ℕ → Size → Option (ℕ × Size)
+chosen place best = cond (ltb best.width 65_536) (Some (place, best)) None
 
 -- What holds of the first k sizes and of the next holds of one size more.
 one_more : (P : ℕ → Type 0) (k : ℕ) → ((i : ℕ) → i < k → P i) → P k → (i : ℕ) → i < k + 1 → P i
@@ -151,20 +155,32 @@ module _ (bytes : List ℕ) (count h : ℕ) where
     here : held z ≡ size_no s k
     here = read.same count more
 
-    pub seen_better : (best : Option (ℕ × Size)) (t : Bool) (P : ℕ × Size → Type 0) → Best s h best k → z.height < h → MatchOption best (t ≡ true) P → ((b : ℕ × Size) → P b → t ≡ narrower (held z) (held b.1)) → t ≡ true → Best s h (Some (k, z)) (k + 1)
-    seen_better None t P known low test says holds = took_first s h z k (omega (arith, as_many)) here low known
-    seen_better (Some b) t P known low test says holds = took_narrower s h z k (omega (arith, as_many)) here low b known (sym (says b test) ∙ holds)
+    took_better : (b : Bool) (best : Size) (place : ℕ) → Best s h (cond b (Some (place, best)) None) k → z.height < h → narrower (held z) (held best) ≡ true → Best s h (Some (k, z)) (k + 1)
+    took_better true best place known low test = took_narrower s h z k (omega (arith, as_many)) here low (place, best) known test
+    took_better false best place known low test = took_first s h z k (omega (arith, as_many)) here low known
+
+    pub seen_better : (best : Size) (place : ℕ) (t : Bool) → Best s h (chosen place best) k → z.height < h → t ≡ narrower (held z) (held best) → t ≡ true → Best s h (chosen k z) (k + 1)
+    seen_better best place t known low says holds =
+        rw (lt-ltb z.width 65_536 read.width_fits) (took_better (ltb best.width 65_536) best place known low (sym says ∙ holds))
 
     pub seen_tall : (best : Option (ℕ × Size)) → Best s h best k → h ≤ z.height → Best s h best (k + 1)
     seen_tall None known tall = passed s h None k known (omega (arith, as_many)) (λ low. let same = ap height here in omega arith)
     seen_tall (Some b) known tall =
         passed s h (Some b) k known (omega (arith, as_many)) (λ low. let same = ap height here in absurd (omega arith))
 
-    pub seen_worse : (best : Option (ℕ × Size)) (t : Bool) (P : ℕ × Size → Type 0) → Best s h best k → MatchOption best (t ≡ true) P → ((b : ℕ × Size) → P b → t ≡ narrower (held z) (held b.1)) → t ≡ false → Best s h best (k + 1)
-    seen_worse None t P known test says fails = absurd (true≢false (sym test ∙ fails))
-    seen_worse (Some b) t P known test says fails =
-        passed s h (Some b) k known (omega (arith, as_many))
-        (λ low. subst (NoWorse (held b.1)) here (narrower_false (held z) (held b.1) (sym (says b test) ∙ fails)))
+    passed_worse : (b : Bool) (best : Size) (place : ℕ) → ltb best.width 65_536 ≡ b → Best s h (cond b (Some (place, best)) None) k → narrower (held z) (held best) ≡ false → Best s h (cond b (Some (place, best)) None) (k + 1)
+    passed_worse true best place e known test =
+        passed s h (Some (place, best)) k known (omega (arith, as_many))
+        (λ low. subst (NoWorse (held best)) here (narrower_false (held z) (held best) test))
+    passed_worse false best place e known test =
+        let wide = ltb-false best.width 65_536 e in
+        let fits = read.width_fits in
+        let less : z.width < best.width = omega arith in
+        absurd (true≢false (sym (lt-ltb _ _ less) ∙ narrower_yes z.height z.width best.height best.width less ∙ test))
+
+    pub seen_worse : (best : Size) (place : ℕ) (t : Bool) → Best s h (chosen place best) k → t ≡ narrower (held z) (held best) → t ≡ false → Best s h (chosen place best) (k + 1)
+    seen_worse best place t known says fails =
+        passed_worse (ltb best.width 65_536) best place refl known (sym says ∙ fails)
 
   pub all_seen : (best : Option (ℕ × Size)) (k : ℕ) → Best s h best k → count ≤ k → NextBelow s h best
   all_seen None k known done = λ i less. lower_no (ltb (height (size_no s i)) h) i refl less

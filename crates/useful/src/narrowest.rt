@@ -8,7 +8,7 @@ ghost use Rattle.useful.specs.inside.Narrowest.{narrower, NextBelow};
 
 use sizes::{Size, size_in};
 
-// Above every height of two bytes.
+// Above every height and width of two bytes.
 const ABOVE: u32 = 65536;
 
 // Whether z is narrower than the other size, or as wide and lower. As pairs of width and height the two compare slower.
@@ -23,14 +23,25 @@ fn narrowest_below(sizes: &[u8], count: usize, height: u32) -> Option<(usize, Si
     requires { GaugeBytes count sizes.now }
     ensures { NextBelow (sizes_in count sizes.now) height result }
 {
-    let mut best: Option<(usize, Size)> = None;
+    // It begins wider than every size, so that the first that is lower is taken; kept as an `Option`, it costs the list
+    // call of mixed-64-shuffled 264,688 instructions in place of 256,179.
+    let mut best = Size {
+        height: ABOVE,
+        width: ABOVE,
+    };
+    let mut place = 0;
     for k in 0..count {
         let z = size_in(sizes, k);
-        if z.height < height && best.is_none_or(|(_, narrowest)| is_narrower(z, narrowest)) {
-            best = Some((k, z));
+        if z.height < height && is_narrower(z, best) {
+            best = z;
+            place = k;
         }
     }
-    best
+    if best.width < ABOVE {
+        Some((place, best))
+    } else {
+        None
+    }
 }
 
 // The word of a gauge's list, digit by digit from the highest size of the list to the lowest.
