@@ -11,9 +11,6 @@ mod units;
 pub use kinds::Kind;
 pub use units::Units;
 
-// The kind byte of a gauge.
-pub const GAUGE: u8 = 1;
-
 // A place between two entries, and what was counted before it: parts on the stack, gauges and sizes.
 #[derive(Clone, Copy, PartialEq, Eq)]
 pub struct Cursor {

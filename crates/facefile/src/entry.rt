@@ -20,7 +20,7 @@ pub enum Entry<'a> {
     Join(Kind),
 }
 
-// The entries of a file that are still to come, which begin at a place.
+// The entries of a file that are still to come, which begin at a place. `facewords::entry` says why it has its own.
 #[derive(Drop)]
 pub struct Entries<'a> {
     pub file: &'a [u8],

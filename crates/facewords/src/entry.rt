@@ -15,7 +15,8 @@ pub enum Entry<'a> {
     Join(Kind),
 }
 
-// The entries of words that are still to come, which begin at a place.
+// The entries of words that are still to come, which begin at a place. One iterator over `entries::Units` for these and
+// for bytes was tried: its `next` is not proved, since the laws of a run speak of the face, which `entries` does not know.
 #[derive(Drop)]
 pub struct Entries<'a> {
     pub words: &'a [u32],
