@@ -4,7 +4,7 @@
 use cases_line::given::Given;
 use cases_shown::buffers::{show_output, show_words};
 use cases_shown::kept::show_all_kept;
-use cases_shown::list::{show_list, show_reading};
+use cases_shown::list::{End, show_list, show_reading};
 use cases_shown::print::{end_line, put_next, put_word};
 use cases_shown::rooms::{OUTPUT, UNTOUCHED, WORDS};
 
@@ -55,14 +55,14 @@ fn leave_list(given: Given<'_>, arena: &mut [u32]) {
     );
 }
 
-// The reading call, from the low end or from the top, on an arena that the list call leaves and whose words are then
+// The reading call, from an end, on an arena that the list call leaves and whose words are then
 // replaced.
-pub fn call_read(out: &impl Print, given: Given<'_>, low: bool) {
+pub fn call_read(out: &impl Print, given: Given<'_>, end: End) {
     let numbers = given.numbers;
     let mut arena = [numbers.height; WORDS];
     leave_list(given, &mut arena);
     given.replaced.replace_words(&mut arena);
-    show_reading(out, &arena, numbers.arena.min(WORDS), numbers.width, low);
+    show_reading(out, &arena, numbers.arena.min(WORDS), numbers.width, end);
 }
 
 // The first words of an arena that the list call leaves.

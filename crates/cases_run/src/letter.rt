@@ -1,4 +1,5 @@
 // The calls, and their letters.
+use cases_shown::list::End;
 
 // A call that is lent an arena, a scratch and an output.
 #[derive(Clone, Copy)]
@@ -13,8 +14,7 @@ pub enum Lent {
 pub enum Arena {
     Lent(Lent),
     Sheet,
-    Read,
-    ReadLow,
+    Read(End),
     Words,
 }
 
@@ -40,8 +40,8 @@ impl TryFrom<u8> for Call {
             b'f' => Ok(Call::Arena(Arena::Lent(Lent::Fit))),
             b'c' => Ok(Call::Arena(Arena::Lent(Lent::Widths))),
             b'm' => Ok(Call::Arena(Arena::Sheet)),
-            b'r' => Ok(Call::Arena(Arena::Read)),
-            b'b' => Ok(Call::Arena(Arena::ReadLow)),
+            b'r' => Ok(Call::Arena(Arena::Read(End::Top))),
+            b'b' => Ok(Call::Arena(Arena::Read(End::Low))),
             b'd' => Ok(Call::Arena(Arena::Words)),
             b'v' => Ok(Call::Levels),
             b'g' => Ok(Call::Gauge),

@@ -1,7 +1,7 @@
 // What a call left in its output, a file, a text or an arena.
 use crate::kept::put_kept;
 use crate::print::{end_line, put, put_row, put_sum};
-use crate::rooms::Unit;
+use crate::rooms::{BLANK, TEXT, Unit};
 use crate::sum::sum_of;
 
 // How many words of an output, or bytes of a file, are shown. Of those after them a sum is.
@@ -40,6 +40,22 @@ pub fn show_text(out: &impl Print, text: &[u8], length: usize) {
     put(out, text);
     put_kept(out, b"rest", rest);
     end_line(out);
+}
+
+// What a program prints for a file, in a buffer of so many bytes.
+pub fn call_text<F: FnOnce(&[u8], &mut [u8]) -> usize>(
+    out: &impl Print,
+    file: &[u8],
+    bytes: usize,
+    text_of: F,
+)
+    requires { F.IsAlwaysCallable text_of }
+{
+    let mut room = [BLANK; TEXT];
+    let text = &mut room[..bytes.min(TEXT)];
+    let length = text_of(file, text);
+    put(out, b"text\n");
+    show_text(out, text, length);
 }
 
 // The first words of an arena, in a line.

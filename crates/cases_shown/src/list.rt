@@ -87,20 +87,26 @@ fn put_reading(out: &impl Print, name: &[u8], reading: maxplus::Reading) {
     end_line(out);
 }
 
-// What the reading call gives at a place from the low end or from the top.
-fn read_from(out: &impl Print, arena: &[u32], place: u32, low: bool) {
-    if low {
-        put_reading(out, b"low ", maxplus::read_low(arena, place));
-    } else {
-        put_reading(out, b"read ", maxplus::read(arena, place));
+// The end of a list from which its places are counted.
+#[derive(Clone, Copy)]
+pub enum End {
+    Top,
+    Low,
+}
+
+// What the reading call gives at a place from an end.
+fn read_from(out: &impl Print, arena: &[u32], place: u32, end: End) {
+    match end {
+        End::Top => put_reading(out, b"read ", maxplus::read(arena, place)),
+        End::Low => put_reading(out, b"low ", maxplus::read_low(arena, place)),
     }
 }
 
 // The same of an arena of so many words.
-pub fn show_reading(out: &impl Print, arena: &[u32], words: usize, place: u32, low: bool) {
+pub fn show_reading(out: &impl Print, arena: &[u32], words: usize, place: u32, end: End) {
     let Some(arena) = arena.get(..words) else {
         put(out, b"arena too short\n");
         return;
     };
-    read_from(out, arena, place, low);
+    read_from(out, arena, place, end);
 }
