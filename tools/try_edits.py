@@ -40,7 +40,7 @@ CALLS = {
 }
 
 # What these crates say of a read that failed only the programs `faces` and `material` ask. tools/test_faces.sh tries it.
-UNREACHED = ["input"]
+UNREACHED = ["input", "filter"]
 
 # The status of `rt try` where each piece came out right, and where one did not: a fault, another text or no end.
 RIGHT = 0
