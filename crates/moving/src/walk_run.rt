@@ -19,6 +19,7 @@ pub fn walk_run(arena: &mut [u32], head: usize, key: u32, q: u32, sums: &[u32; 9
     requires cached { Cached arena.old head ends.old.lasts sums.now ends.old.sums }
     ensures run_moved { RunMoved arena.old arena.new head key q ends.old.lasts ends.new.lasts }
     ensures cached_after { Cached arena.new head ends.new.lasts sums.now ends.new.sums }
+    ensures sums_same { ends.new.sums ≡ ends.old.sums }
 {
     let v = lift(q, sums, ends, 1);
     let to = walk(arena, head, key, v);

@@ -40,4 +40,5 @@ returns c =
       run_moved = λ hc cs r rs w.
           run_moved _ _ hc _ cs r rs _ w c.requires.key_stops _ _ (made) _ _ (c.walk-to.ensures (r ∷ rs) w.list) _ c.get-sum.ensures _ c.relink_lowest.ensures;
       cached_after = walk_cached _ _ p.0 _ p.1 p.2 p.3 _ p.4 c.requires.key_stops _ _ (made) _ _ (c.walk-to.ensures (p.2 ∷ p.3) p.4.list) _ c.get-sum.ensures _ c.relink_lowest.ensures _ _ c.requires.cached;
+      sums_same = search rules;
     }
