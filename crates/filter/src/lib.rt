@@ -5,23 +5,12 @@
 mod reply;
 
 use input::read_input;
-use reply::reply;
-pub use reply::{Faces, Material, Program};
-use std::io;
+pub use reply::{Faces, Fault, Material, Program, Text};
 use std::io::Read;
 use std::process::ExitCode;
 
 // How many bytes of a file are read at most.
 const MOST: usize = 4_096;
-
-// Room for every text of either program: those of `faces` are the longer ones.
-const TEXT: usize = report::TEXT;
-
-// What failed: a read of standard input, or a write to standard output.
-enum Fault {
-    Input(io::Error),
-    Output(io::Error),
-}
 
 // Prints what a program says of standard input. Where a read fails nothing is printed.
 //
@@ -29,9 +18,7 @@ enum Fault {
 fn answer<P: Program>(out: &impl Print, stdin: &mut impl Read) -> Result<(), Fault> {
     let mut room = [0u8; MOST];
     let input = read_input(stdin, &mut room);
-    let mut text = [0u8; TEXT];
-    let length = reply::<P>(input, &room, &mut text).map_err(Fault::Input)?;
-    out.write_all(&text[..length]).map_err(Fault::Output)
+    P::print(out, input, &room)
 }
 
 // Runs a program. What fails is said in a line, with the status of a failure.
