@@ -4,6 +4,7 @@ ghost use Rattle.text.specs.Printing.{Counted};
 ghost use Rattle.facefile.specs.Format.{face_of};
 ghost use Rattle.report.specs.inside.Telling.{Told};
 ghost use Rattle.materialtext.specs.Material.{material_bytes, material_printed, MaterialText};
+ghost use Rattle.materialtext.specs.inside.Telling.{Gauged};
 
 use crate::TEXT;
 use checks::Check;
@@ -11,7 +12,19 @@ use checks::limits::WORDS;
 use facefile::reader::counts;
 use materialsheet::print_face;
 use rendering::render::render_refused;
-use report::{OPENING, RIB};
+use report::{RIB, WIDEST};
+
+// The text of a taken face of so many gauges, or the check that refuses it. The scratch lies here, so that a refused file takes
+// no stack for it.
+fn sheet_text(file: &[u8], gauges: usize, text: &mut [u8]) -> Result<usize, Check>
+    requires gauged { Gauged file.now gauges }
+    requires text_long { material_bytes ≤ length text.old }
+    ensures { Told material_bytes (material_printed (face_of file.now)) text.old result text.new }
+{
+    let mut scratch = [0u32; WORDS];
+    let length = print_face(file, gauges, RIB, WIDEST, &mut scratch, text)?;
+    Ok(length as usize)
+}
 
 // The text of the face that a file means, or the check that refuses it.
 fn told(file: &[u8], text: &mut [u8]) -> Result<usize, Check>
@@ -19,9 +32,7 @@ fn told(file: &[u8], text: &mut [u8]) -> Result<usize, Check>
     ensures { Told material_bytes (material_printed (face_of file.now)) text.old result text.new }
 {
     let counted = counts(file)?;
-    let mut scratch = [0u32; WORDS];
-    let length = print_face(file, counted.gauges, RIB, OPENING, &mut scratch, text)?;
-    Ok(length as usize)
+    sheet_text(file, counted.gauges, text)
 }
 
 // The text that `material` prints for a file of these bytes, in a buffer with room for every text. Answers its length; 0,

@@ -14,10 +14,13 @@ use placing::place_face;
 use rendering::render::{render, render_refused};
 use sizes::Size;
 
+// The height and the width of the opening.
+pub const OPENING: u32 = 64_000;
+
 // The opening.
-pub const OPENING: Size = Size {
-    height: 64_000,
-    width: 64_000,
+pub const WIDEST: Size = Size {
+    height: OPENING,
+    width: OPENING,
 };
 
 // The rib: parts touch.
@@ -35,7 +38,7 @@ fn placed_text(file: &[u8], levels: &[u8], gauges: usize, text: &mut [u8]) -> Re
     let mut items = [0u32; 898];
     let mut layout = [0u32; 320];
     let count = shapes::write_list(file, levels, RIB, &mut words, &mut items);
-    let face = place_face(file, RIB, OPENING, &mut words, &mut layout)?;
+    let face = place_face(file, RIB, WIDEST, &mut words, &mut layout)?;
     let listed = 2 * (count as usize);
     let placed = 5 * gauges;
     Ok(render(

@@ -3,7 +3,7 @@
 
 mod face;
 
-pub use face::{OPENING, RIB, faces_text};
+pub use face::{OPENING, RIB, WIDEST, faces_text};
 
 // The bytes that the text of a face takes at most: 17 + 22 * 449 + 38 + 58 * 64.
 pub const TEXT: usize = 13_645;

@@ -1,10 +1,8 @@
 -- `materialtext::face::told` meets its contract.
--- A refused file has the line of its check, and the sheet's answer says whether the line of a refusal or the sheet is due, by `told_none` and `told_sheet`.
-use native.Mathlib.Omega.{arith}
-use borrow.Author.Rules.{rules}
+-- A refused file has the line of its check, and a taken one what `sheet_text` says of it.
 use Rattle.std.proofs.lemmas.Result.{err_from_is_err_and}
 use Rattle.materialtext.specs.Material.{material_bytes}
-use Rattle.materialtext.proofs.Telling.{told_asked, told_none, told_sheet, told_refused, gauged}
+use Rattle.materialtext.proofs.Telling.{told_refused, gauged}
 use Rattle.materialtext.proofs.face.told.Goals as goal
 
 pub returns-in_err-counted : goal.returns-in_err-counted
@@ -12,14 +10,5 @@ returns-in_err-counted c =
     let p = err_from_is_err_and c.from_residual.result c.from_residual.ensures.1 in
     rw (p.1, p.2) (told_refused _ _ c.in_err-counted.ensures material_bytes _)
 
-pub print_face-requires : goal.print_face-requires
-print_face-requires c = told_asked _ _ (gauged _ _ c.in_ok-counted.ensures) _ _ (omega arith) c.requires
-
-pub returns-in_err-length : goal.returns-in_err-length
-returns-in_err-length c =
-    let p = err_from_is_err_and c.from_residual-in_err-length.result c.from_residual-in_err-length.ensures.1 in
-    rw (p.1, p.2) (told_none _ _ (gauged _ _ c.in_ok-counted.ensures) _ _ _ c.in_err-length.ensures material_bytes)
-
-pub returns : goal.returns
-returns c =
-    told_sheet _ _ (gauged _ _ c.in_ok-counted.ensures) _ _ _ c.requires c.in_ok-length.ensures (search rules)
+pub sheet_text-requires : goal.sheet_text-requires
+sheet_text-requires c = record { gauged = gauged _ _ c.in_ok-counted.ensures; text_long = c.requires }
