@@ -18,6 +18,9 @@ sets_joined (x ∷ a) b old i =
 pub nothing : {A : Type 0} (old : List A) (at : ℕ) → Appended old at [] old at
 nothing old at = record { place = omega arith; text = refl }
 
+pub one : {A : Type 0} (old : List A) (at : ℕ) (value : A) → Appended old at (value ∷ []) (set old at value) (at + 1)
+one old at value = record { place = omega arith; text = refl }
+
 -- The same bytes otherwise written.
 pub same_bytes : {A : Type 0} {old : List A} {at : ℕ} {a b new : List A} {j : ℕ} → Appended old at a new j → a ≡ b → Appended old at b new j
 same_bytes {A} {old} {at} {a} {b} {new} {j} s e =

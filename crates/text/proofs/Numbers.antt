@@ -1,45 +1,33 @@
--- A number on a page: below ten it is its one digit, and from ten on the digits of its tenth and then its last.
--- It is the rule of the digits, and what is written in turn is written together.
-use mathlib.Core.Path.{◌≡◌, sym, ap, ◌∙◌}
-use mathlib.Core.List.{List, [], ◌∷◌, ◌++◌}
-use Prim.Native.Nat.{ℕ, ◌/◌, ◌%◌, ◌≤◌, ◌<◌}
+-- One digit stored is a number below ten, and the last digit stored after the digits of the tenth of a number is that number.
+-- It is the rule of the digits, with the law that what is appended in turn is appended together.
+use mathlib.Core.Path.{sym}
+use mathlib.Core.List.{List}
+use Prim.Native.Nat.{ℕ, ◌+◌, ◌/◌, ◌%◌, ◌≤◌, ◌<◌}
 use native.Mathlib.Omega.{arith}
-use Rattle.text.specs.declared.page.Page.{Page}
+use lib.ListN.{length, set}
 use Rattle.text.specs.Decimal.{digit, decimal}
-use Rattle.text.specs.inside.Writing.{Fits, Wrote}
+use Rattle.text.specs.inside.Appending.{Appended}
 use Rattle.text.proofs.Decimals.{decimal_small, decimal_large}
-use Rattle.text.proofs.Pages.{same_fit, same_wrote, first_fits, rest_fits, both_wrote}
+use Rattle.text.proofs.Lengths.{decimal_short, decimal_longer}
+use Rattle.text.proofs.Appends.{one, same_bytes, joined, appended_length}
 
--- The last digit.
-abbrev last : ℕ → List ℕ
-last n = digit (n % 10) ∷ []
+module _ (old : List ℕ) (at n : ℕ) (low : n < 10) where
+  -- There is room for it.
+  pub one_room : at + length (decimal n) ≤ length old → at < length old
+  one_room room = omega (arith, decimal_short n low)
 
-module _ (p : Page ℕ) (n : ℕ) where
-  module _ (low : n < 10) where
-    only : last n ≡ decimal n
-    only = ap (λ (d : ℕ). digit d ∷ []) alone ∙ sym (decimal_small n low)
-      where
-        alone : n % 10 ≡ n
-        alone = omega arith
+  pub number_one : Appended old at (decimal n) (set old at (48 + n)) (at + 1)
+  number_one = same_bytes (one old at (digit n)) (sym (decimal_small n low))
 
-    pub digit_fits : Fits p (decimal n) → Fits p (last n)
-    digit_fits f = same_fit p (decimal n) (last n) (sym only) f
+module _ (old : List ℕ) (at n : ℕ) (high : 10 ≤ n) where
+  pub tenth_room : at + length (decimal n) ≤ length old → at + length (decimal (n / 10)) ≤ length old
+  tenth_room room = omega (arith, decimal_longer n high)
 
-    pub digit_wrote : (q : Page ℕ) → Wrote p (last n) q → Wrote p (decimal n) q
-    digit_wrote q s = same_wrote p (last n) (decimal n) q only s
+  pub last_room : (mid : List ℕ) (last : ℕ) → at + length (decimal n) ≤ length old → Appended old at (decimal (n / 10)) mid last → last < length mid
+  last_room mid last room s =
+      let place = s.place in
+      let same = appended_length s in
+      omega (arith, decimal_longer n high)
 
-  module _ (high : 10 ≤ n) where
-    both_fit : Fits p (decimal n) → Fits p (decimal (n / 10) ++ last n)
-    both_fit f = same_fit p (decimal n) (decimal (n / 10) ++ last n) (decimal_large n high) f
-
-    pub tenth_fits : Fits p (decimal n) → Fits p (decimal (n / 10))
-    tenth_fits f = first_fits p (decimal (n / 10)) (last n) (both_fit f)
-
-    module _ (q : Page ℕ) (s : Wrote p (decimal (n / 10)) q) where
-      pub last_fits : Fits p (decimal n) → Fits q (last n)
-      last_fits f = rest_fits p (decimal (n / 10)) (last n) q s (both_fit f)
-
-      pub last_wrote : (r : Page ℕ) → Wrote q (last n) r → Wrote p (decimal n) r
-      last_wrote r t =
-          same_wrote p (decimal (n / 10) ++ last n) (decimal n) r (sym (decimal_large n high))
-          (both_wrote p (decimal (n / 10)) (last n) q s r t)
+  pub number_more : (mid : List ℕ) (last : ℕ) → Appended old at (decimal (n / 10)) mid last → Appended old at (decimal n) (set mid last (48 + n % 10)) (last + 1)
+  number_more mid last s = same_bytes (joined s (one mid last (digit (n % 10)))) (sym (decimal_large n high))

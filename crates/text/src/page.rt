@@ -1,8 +1,9 @@
 // A lent buffer that is written from its start on. Each method asks room for the very values that it writes, and leaves
 // the page at the place after them.
-ghost use Rattle.std.specs.Prelude.{◌≡◌, [], ◌∷◌};
+ghost use Rattle.std.specs.Prelude.{◌≡◌, [], ◌∷◌, ◌+◌, ◌≤◌, length};
 ghost use Rattle.text.specs.Decimal.{decimal};
 ghost use Rattle.text.specs.Fields.{field, named};
+ghost use Rattle.text.specs.inside.Appending.{Appended};
 ghost use Rattle.text.specs.inside.Writing.{Fits, Wrote};
 
 // The buffer, and the place in it of the next value.
@@ -40,16 +41,28 @@ impl<'a, T: Copy> Page<'a, T> {
     }
 }
 
+// A number in base ten at a place of a buffer: what comes before its last digit, if anything does, and then that digit. It
+// answers the place after it, which a page would have loaded and stored at each digit.
+fn put_number(buffer: &mut [u8], at: usize, n: u32) -> usize
+    requires { at + length (decimal n) ≤ length buffer.old }
+    ensures { Appended buffer.old at (decimal n) buffer.new result }
+{
+    if n < 10 {
+        buffer[at] = b'0' + n as u8;
+        return at + 1;
+    }
+    let last = put_number(buffer, at, n / 10);
+    buffer[last] = b'0' + (n % 10) as u8;
+    last + 1
+}
+
 impl<'a> Page<'a, u8> {
-    // A number in base ten: what comes before its last digit, if anything does, and then that digit.
+    // A number in base ten.
     pub fn number(&mut self, n: u32)
         requires { Fits self.old (decimal n) }
         ensures { Wrote self.old (decimal n) self.new }
     {
-        if n >= 10 {
-            self.number(n / 10);
-        }
-        self.put(b'0' + (n % 10) as u8);
+        self.at = put_number(self.buffer, self.at, n);
     }
 
     // A number and the byte that ends it.
