@@ -5,7 +5,7 @@ ghost use Rattle.checks.specs.Answer.{taken};
 ghost use Rattle.slicing.specs.Tree.{Tree};
 ghost use Rattle.sizes.specs.Rules.{asks_order};
 ghost use Rattle.facefile.specs.Format.{rules_of, face_of};
-ghost use Rattle.facefile.specs.inside.Entries.{Stands};
+ghost use Rattle.facefile.specs.inside.Entries.{Stands, count_of};
 
 use entries::Kind;
 use sizes::field::field;
@@ -69,6 +69,13 @@ impl<'a> Iterator for Entries<'a> {
             Some(Entry::Join(Kind::Beside))
         }
     }
+}
+
+// How many sizes stand in the bytes that an entry gives of a gauge.
+pub fn size_count(sizes: &[u8]) -> usize
+    ensures { result ≡ count_of sizes.now }
+{
+    sizes.len() / 4
 }
 
 // Whether the sizes of every gauge of a taken file stand in order, since check 9 asked it of them.

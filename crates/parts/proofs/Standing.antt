@@ -10,7 +10,7 @@ use lib.Seq.{get_or-take, get_or-drop, length-take-le}
 use Rattle.checks.specs.Limits.{buffer_words}
 use Rattle.checks.specs.Answer.{taken}
 use Rattle.slicing.specs.Item.{Item}
-use Rattle.slicing.specs.Tree.{Tree, sizes_of, gauge_count, size_count}
+use Rattle.slicing.specs.Tree.{Tree, gauge, sizes_of, gauge_count, size_count}
 use Rattle.slicing.specs.Good.{Good}
 use Rattle.slicing.specs.Recorded.{Recorded, merge_recorded, part_recorded}
 use Rattle.slicing.proofs.PartLists.{part_few}
@@ -30,7 +30,7 @@ use Rattle.sizes.specs.inside.Sizes.{sizes_in}
 use Rattle.useful.specs.inside.Order.{GaugeBytes, order_word, counting_word}
 use Rattle.useful.proofs.FirstDigits.{first_word_is}
 use Rattle.entries.specs.inside.Tracking.{flat}
-use Rattle.facefile.specs.inside.Entries.{Walk, count_of, gauge_of, GaugeNext, JoinNext}
+use Rattle.facefile.specs.inside.Entries.{Walk, count_of, GaugeNext, JoinNext}
 use Rattle.facefile.specs.inside.Entries.Gives.{rest_of, Gives}
 use Rattle.sizes.proofs.SizesIn.{in_length}
 use Rattle.facefile.proofs.Taken.{face_taken}
@@ -95,21 +95,21 @@ module _ (file levels : List ℕ) (rib : ℕ) (a₀ a : List ℕ) (kinds : List 
   few_sizes = (face_taken file face k.ready.face).most
 
   module _ (r : Entry) (came : Gives it (Some r) behind) where
-    module _ (own_sizes : Bor (List ℕ)) (e : r ≡ Gauge own_sizes) where
+    module _ (own_sizes : Bor (List ℕ)) (e : r ≡ Gauge own_sizes) (count : ℕ) (counted : count ≡ count_of own_sizes.now) where
       abbrev bytes : List ℕ
       bytes = own_sizes.now
 
       here : GaugeNext file face k.stack (rest_of it) bytes (rest_of behind)
       here = came_gauge file face k.stack it behind k.walked.walk r came own_sizes e
 
-      abbrev count : ℕ
-      count = count_of bytes
-
       abbrev sizes : List Item
       sizes = sizes_in count bytes
 
       abbrev stack : List Tree
-      stack = gauge_of bytes ∷ k.stack
+      stack = gauge sizes ∷ k.stack
+
+      walk : Walk file face (rest_of behind) stack
+      walk = rw counted here.walk
 
       pub gauge_room : parts < 64
       gauge_room = counted_room file face (rest_of it) k.stack parts k.walked (rest_of behind) bytes here
@@ -117,7 +117,7 @@ module _ (file levels : List ℕ) (rib : ℕ) (a₀ a : List ℕ) (kinds : List 
       -- The gauge's sizes have levels, and records.
       pub levels_left : done + count ≤ length levels
       levels_left =
-          let whole = walk_sizes file face (rest_of behind) stack here.walk in
+          let whole = walk_sizes file face (rest_of behind) stack walk in
           let both = length-append (flat sizes_of k.stack) sizes in
           let many = in_length count bytes in
           let total = parts_total rib levels a k.stack (done + 1) k.stands in
@@ -141,12 +141,12 @@ module _ (file levels : List ℕ) (rib : ℕ) (a₀ a : List ℕ) (kinds : List 
 
       -- The word of the gauge's list can be asked for, and the list loaded by it.
       pub gauge_bytes : GaugeBytes count bytes
-      gauge_bytes = record { sized = here.sized; some = here.some; few = here.few }
+      gauge_bytes = rw counted (record { sized = here.sized; some = here.some; few = here.few })
 
       -- The sizes of a gauge that was asked for its order stand in order.
       pub gauge_in_order : (known : Bool) → known ≡ asks_order (rules_of file) → known ≡ true → (word : ℕ) → word ≡ counting_word count → word ≡ order_word sizes
       gauge_in_order known Known-is asked word word_is =
-          first_word_is count bytes word (here.order (sym Known-is ∙ asked)) word_is
+          first_word_is count bytes word (rw counted (here.order (sym Known-is ∙ asked))) word_is
 
       pub gauge_loads : (order : ℕ) → order ≡ order_word sizes → Loadable a (first_head + parts) (done + 1) bytes own order
       gauge_loads order order_is =
@@ -155,8 +155,8 @@ module _ (file levels : List ℕ) (rib : ℕ) (a₀ a : List ℕ) (kinds : List 
           let l = levels_left in
           let records = records_left in
           let many = own_long in
-          let sized = here.sized in
-          let few = here.few in
+          let sized = gauge_bytes.sized in
+          let few = gauge_bytes.few in
           record {
             head_has = omega arith;
             some = omega arith;
@@ -193,7 +193,7 @@ module _ (file levels : List ℕ) (rib : ℕ) (a₀ a : List ℕ) (kinds : List 
             (λ i less. d.outside (head_of i) (λ e. omega arith) (away (head_of i) (λ i. let v = i.1 in omega arith)))
             k.stands
 
-        on_top : Part levels b (head_of (length k.stack)) (done + 1) (done + count + 1) (part_recorded rib (done + 1) (gauge_of bytes))
+        on_top : Part levels b (head_of (length k.stack)) (done + 1) (done + count + 1) (part_recorded rib (done + 1) (gauge sizes))
         on_top =
             let head : first_head + parts ≡ head_of (length k.stack) = ap (λ (i : ℕ). first_head + i) (sym k.walked.count) in
             let many = in_length count bytes in
@@ -206,10 +206,10 @@ module _ (file levels : List ℕ) (rib : ℕ) (a₀ a : List ℕ) (kinds : List 
             record {
               ready = k.ready;
               stack = stack;
-              walked = counted_gauge file face (rest_of it) k.stack parts k.walked (rest_of behind) bytes here;
+              walked = rw counted (counted_gauge file face (rest_of it) k.stack parts k.walked (rest_of behind) bytes here);
               records = let left = records_left in omega arith;
               length_kept = d.long ∙ k.length_kept;
-              kinds_held = column_push a_gauge last_kind kinds k.stack parts k.walked.count k.kinds_held l a_gauge (gauge_of bytes) gauge_room stored refl;
+              kinds_held = column_push a_gauge last_kind kinds k.stack parts k.walked.count k.kinds_held l a_gauge (gauge sizes) gauge_room stored refl;
               stands = (done + 1, omega arith, on_top, below);
             }
 

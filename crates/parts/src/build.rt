@@ -8,7 +8,7 @@ ghost use Rattle.parts.specs.inside.Building.{Buildable, Whole};
 use crate::heads::{FIRST, copy_head};
 use crate::join::join;
 use entries::Kind;
-use facefile::entry::{Entries, Entry, asks_order};
+use facefile::entry::{Entries, Entry, asks_order, size_count};
 use loading::load::load;
 use useful::order::{in_order, order};
 
@@ -26,7 +26,7 @@ pub fn build(file: &[u8], levels: &[u8], rib: u32, arena: &mut [u32]) -> Kind
     for entry in Entries::of(file) {
         match entry {
             Entry::Gauge(sizes) => {
-                let count = sizes.len() / 4;
+                let count = size_count(sizes);
                 let end = size + count;
                 let own = &levels[size..end];
                 let named = if known {

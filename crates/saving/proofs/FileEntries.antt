@@ -7,7 +7,7 @@ use lib.ListN.{drop}
 use Rattle.std.specs.Prelude.{Option, Some, None}
 use Rattle.std.specs.Borrow.{Bor}
 use Rattle.checks.specs.Answer.{taken}
-use Rattle.slicing.specs.Tree.{Tree}
+use Rattle.slicing.specs.Tree.{Tree, gauge}
 use Rattle.sizes.specs.inside.Sizes.{sizes_in, Sized}
 use Rattle.entries.specs.inside.Kinds.{byte_of}
 use Rattle.entries.specs.declared.kinds.Kind.{Kind}
@@ -15,7 +15,7 @@ use Rattle.facefile.specs.Format.{rules_of, start, face_of}
 use Rattle.facefile.specs.declared.entry.Entry.{Entry}
 use Rattle.facefile.specs.declared.entry.Entry.TheVariants.{Gauge, Join}
 use Rattle.facefile.specs.declared.entry.Entries.{Entries}
-use Rattle.facefile.specs.inside.Entries.{Walk, count_of, gauge_of, GaugeNext, JoinNext}
+use Rattle.facefile.specs.inside.Entries.{Walk, count_of, GaugeNext, JoinNext}
 use Rattle.facefile.specs.inside.Entries.Gives.{rest_of, Gives}
 use Rattle.facefile.proofs.EntryWalk.{walk_start}
 use Rattle.facefile.proofs.EntrySteps.{came_none, came_gauge, came_join}
@@ -35,23 +35,26 @@ module _ (old : Page ℕ) (file : List ℕ) where
 
   module _ (now : Page ℕ) (s u : Entries) (p : Putting old file (rest_of s) now) where
     module _ (r : Entry) (came : Gives s (Some r) u) where
-      module _ (sizes : Bor (List ℕ)) (e : r ≡ Gauge sizes) where
+      module _ (sizes : Bor (List ℕ)) (e : r ≡ Gauge sizes) (count : ℕ) (counted : count ≡ count_of sizes.now) where
         here : GaugeNext file p.face p.stack (rest_of s) sizes.now (rest_of u)
         here = came_gauge file p.face p.stack s u p.walk r came sizes e
 
-        abbrev count : ℕ
-        count = count_of sizes.now
+        abbrev own : Tree
+        own = gauge (sizes_in count sizes.now)
 
-        pub putting_fits : (count ≤ 8) × Sized count sizes.now × Fits now (entries_of list_words (gauge_of sizes.now))
+        walk : Walk file p.face (rest_of u) (own ∷ p.stack)
+        walk = rw counted here.walk
+
+        pub putting_fits : (count ≤ 8) × Sized count sizes.now × Fits now (entries_of list_words own)
         putting_fits = (
-          here.few,
-          here.sized,
-          gauge_room (face_of file) (rules_of file) (start file) list_words old (rest_of s) now p (sizes_in count sizes.now) (rest_of u) here.walk,
+          rw counted here.few,
+          rw counted here.sized,
+          gauge_room (face_of file) (rules_of file) (start file) list_words old (rest_of s) now p (sizes_in count sizes.now) (rest_of u) walk,
         )
 
-        pub putting_gauge : (new : Page ℕ) → Wrote now (entries_of list_words (gauge_of sizes.now)) new → Putting old file (rest_of u) new
+        pub putting_gauge : (new : Page ℕ) → Wrote now (entries_of list_words own) new → Putting old file (rest_of u) new
         putting_gauge =
-            coding_gauge (face_of file) (rules_of file) (start file) list_words old (rest_of s) now p (sizes_in count sizes.now) (rest_of u) here.walk
+            coding_gauge (face_of file) (rules_of file) (start file) list_words old (rest_of s) now p (sizes_in count sizes.now) (rest_of u) walk
 
       module _ (kind : Kind) (e : r ≡ Join kind) where
         join : JoinNext (Walk file p.face) p.stack (rest_of s) kind (rest_of u)

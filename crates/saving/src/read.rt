@@ -12,7 +12,7 @@ ghost use Rattle.saving.specs.inside.Answers.{worded_as};
 
 use crate::Worded;
 use checks::Check;
-use facefile::entry::{Entries, Entry};
+use facefile::entry::{Entries, Entry, size_count};
 use facefile::{Counts, reader};
 use gauges::put_gauge;
 use text::page::Page;
@@ -33,7 +33,7 @@ fn put_entries(page: &mut Page<'_, u32>, file: &[u8])
 {
     for entry in Entries::of(file) {
         match entry {
-            Entry::Gauge(sizes) => put_gauge(page, sizes, sizes.len() / 4),
+            Entry::Gauge(sizes) => put_gauge(page, sizes, size_count(sizes)),
             Entry::Join(kind) => page.put(kind as u32),
         }
     }

@@ -110,12 +110,9 @@ module _ (gap : ℕ) (file s₀ s : List ℕ) (part to : ℕ) (it behind : Entri
       (omega arith, omega arith)
 
   module _ (r : FileEntry) (came : Gives it (Some r) behind) where
-    module _ (own_sizes : Bor (List ℕ)) (e : r ≡ Gauge own_sizes) where
+    module _ (own_sizes : Bor (List ℕ)) (e : r ≡ Gauge own_sizes) (count : ℕ) (counted : count ≡ count_of own_sizes.now) where
       abbrev bytes : List ℕ
       bytes = own_sizes.now
-
-      abbrev count : ℕ
-      count = count_of bytes
 
       abbrev here : GaugeNext file face k.stack (rest_of it) bytes (rest_of behind)
       here = came_gauge file face k.stack it behind k.walk r came own_sizes e
@@ -123,29 +120,32 @@ module _ (gap : ℕ) (file s₀ s : List ℕ) (part to : ℕ) (it behind : Entri
       abbrev sizes : List Item
       sizes = sizes_in count bytes
 
+      walk : Walk file face (rest_of behind) (gauge sizes ∷ k.stack)
+      walk = rw counted here.walk
+
       pub gauge_part : part + 1 < 128
       gauge_part =
           let total = rows_total gap s to k.stack part k.rows in
-          let few = walk_gauges file face (rest_of behind) (gauge sizes ∷ k.stack) here.walk in
+          let few = walk_gauges file face (rest_of behind) (gauge sizes ∷ k.stack) walk in
           let one_more = length-append (flat gauges_of k.stack) (sizes ∷ []) in
           omega arith
 
       pub gauge_bytes : GaugeBytes count bytes
-      gauge_bytes = record { sized = here.sized; some = here.some; few = here.few }
+      gauge_bytes = rw counted (record { sized = here.sized; some = here.some; few = here.few })
 
       -- The sizes of a gauge that was asked for its order stand in order.
       pub gauge_in_order : (known : Bool) → known ≡ asks_order (rules_of file) → known ≡ true → (word : ℕ) → word ≡ counting_word count → word ≡ order_word sizes
       gauge_in_order known Known-is asked word word_is =
-          first_word_is count bytes word (here.order (sym Known-is ∙ asked)) word_is
+          first_word_is count bytes word (rw counted (here.order (sym Known-is ∙ asked))) word_is
 
       pub gauge_room : Room s part to (count + 1)
       gauge_room =
           let p = place_few in
-          let few = here.few in
+          let few = gauge_bytes.few in
           record { long = long; part = (let fits = gauge_part in omega arith); from = p.0; items = omega arith }
 
       pub gauge_fits : to + (count + 1) < 65_536
-      gauge_fits = let p = place_few in let few = here.few in omega arith
+      gauge_fits = let p = place_few in let few = gauge_bytes.few in omega arith
 
       pub filling_gauge : (z : List ℕ) → GaugeAdded s z part to (to + count) sizes → Filling gap file s₀ z (rest_of behind) (part + 1) (to + (count + 1))
       filling_gauge z added =
@@ -167,7 +167,7 @@ module _ (gap : ℕ) (file s₀ s : List ℕ) (part to : ℕ) (it behind : Entri
           record {
             ready = k.ready;
             stack = gauge sizes ∷ k.stack;
-            walk = here.walk;
+            walk = walk;
             length_kept = d.length_kept ∙ k.length_kept;
             rows = (
               part,

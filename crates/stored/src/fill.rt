@@ -13,7 +13,7 @@ ghost use Rattle.stored.specs.inside.Adding.{Room, PackedBefore, GaugeAdded, Joi
 
 use crate::table::Part;
 use entries::Kind;
-use facefile::entry::{Entries, Entry, asks_order};
+use facefile::entry::{Entries, Entry, asks_order, size_count};
 use packed::item::packed;
 use packed::merge::merge_lists;
 use packed::stretch::Stretch;
@@ -111,7 +111,7 @@ pub fn store_lists(file: &[u8], rib: u32, scratch: &mut [u32]) -> usize
     for entry in Entries::of(file) {
         match entry {
             Entry::Gauge(sizes) => {
-                let count = sizes.len() / 4;
+                let count = size_count(sizes);
                 let named = if known {
                     in_order(count)
                 } else {

@@ -17,34 +17,35 @@ loop-entry-init c =
     standing_start _ _ _ _ _ _ _ c.requires refl c.of-entry-items.ensures c.into_iter-entry-iterator.ensures.into_iter_gives
 
 pub slice_bounds-own-end : goal.slice_bounds-own-end
-slice_bounds-own-end c = levels_left _ _ _ _ _ _ _ _ _ _ c.loop-entry.invariant _ c.in-Some.ensures.steps _ c.in-Gauge.is
+slice_bounds-own-end c = levels_left _ _ _ _ _ _ _ _ _ _ c.loop-entry.invariant _ c.in-Some.ensures.steps _ c.in-Gauge.is _ c.size_count-count.ensures
 
 pub in_order-named-requires : goal.in_order-named-requires
 in_order-named-requires c =
-    let bytes = gauge_bytes _ _ _ _ _ _ _ _ _ _ c.loop-entry.invariant _ c.in-Some.ensures.steps _ c.in-Gauge.is in
+    let bytes = gauge_bytes _ _ _ _ _ _ _ _ _ _ c.loop-entry.invariant _ c.in-Some.ensures.steps _ c.in-Gauge.is _ c.size_count-count.ensures in
     (bytes.some, bytes.few)
 
 pub order-named-requires : goal.order-named-requires
-order-named-requires c = gauge_bytes _ _ _ _ _ _ _ _ _ _ c.loop-entry.invariant _ c.in-Some.ensures.steps _ c.in-Gauge.is
+order-named-requires c = gauge_bytes _ _ _ _ _ _ _ _ _ _ c.loop-entry.invariant _ c.in-Some.ensures.steps _ c.in-Gauge.is _ c.size_count-count.ensures
 
 pub load-requires : goal.load-requires
 load-requires c =
     let standing = c.loop-entry.invariant in
     let came = c.in-Some.ensures.steps in
     let is-gauge = c.in-Gauge.is in
+    let counted = c.size_count-count.ensures in
     elim c.if-known.branch [
       | then-known w ↦
-          gauge_loads _ _ _ _ _ _ _ _ _ _ standing _ came _ is-gauge _
-          (gauge_in_order _ _ _ _ _ _ _ _ _ _ standing _ came _ is-gauge _ c.asks_order-known.ensures w.if-known.true _ (w.named-is ∙ w.in_order-named.ensures))
-      | else-known w ↦ gauge_loads _ _ _ _ _ _ _ _ _ _ standing _ came _ is-gauge _ (w.named-is ∙ w.order-named.ensures)
+          gauge_loads _ _ _ _ _ _ _ _ _ _ standing _ came _ is-gauge _ counted _
+          (gauge_in_order _ _ _ _ _ _ _ _ _ _ standing _ came _ is-gauge _ counted _ c.asks_order-known.ensures w.if-known.true _ (w.named-is ∙ w.in_order-named.ensures))
+      | else-known w ↦ gauge_loads _ _ _ _ _ _ _ _ _ _ standing _ came _ is-gauge _ counted _ (w.named-is ∙ w.order-named.ensures)
     ]
 
 pub bounds-kinds-parts : goal.bounds-kinds-parts
-bounds-kinds-parts c = gauge_room _ _ _ _ _ _ _ _ _ _ c.loop-entry.invariant _ c.in-Some.ensures.steps _ c.in-Gauge.is
+bounds-kinds-parts c = gauge_room _ _ _ _ _ _ _ _ _ _ c.loop-entry.invariant _ c.in-Some.ensures.steps _ c.in-Gauge.is _ c.size_count-count.ensures
 
 pub loop-entry-preserved-in-Gauge : goal.loop-entry-preserved-in-Gauge
 loop-entry-preserved-in-Gauge c =
-    standing_gauge _ _ _ _ _ _ _ _ _ _ c.loop-entry.invariant _ c.in-Some.ensures.steps _ c.in-Gauge.is _ c.load.ensures _ refl
+    standing_gauge _ _ _ _ _ _ _ _ _ _ c.loop-entry.invariant _ c.in-Some.ensures.steps _ c.in-Gauge.is _ c.size_count-count.ensures _ c.load.ensures _ refl
 
 pub overflow_sub-parts : goal.overflow_sub-parts
 overflow_sub-parts c =

@@ -14,11 +14,11 @@ loop-entry-init c =
 
 pub put_gauge-requires : goal.put_gauge-requires
 put_gauge-requires c =
-    putting_fits _ _ _ _ _ c.loop-entry.invariant _ c.in-Some.ensures.steps _ c.in-Gauge.is
+    putting_fits _ _ _ _ _ c.loop-entry.invariant _ c.in-Some.ensures.steps _ c.in-Gauge.is _ c.size_count.ensures
 
 pub loop-entry-preserved-in-Gauge : goal.loop-entry-preserved-in-Gauge
 loop-entry-preserved-in-Gauge c =
-    putting_gauge _ _ _ _ _ c.loop-entry.invariant _ c.in-Some.ensures.steps _ c.in-Gauge.is _ c.put_gauge.ensures
+    putting_gauge _ _ _ _ _ c.loop-entry.invariant _ c.in-Some.ensures.steps _ c.in-Gauge.is _ c.size_count.ensures _ c.put_gauge.ensures
 
 pub put-requires : goal.put-requires
 put-requires c =

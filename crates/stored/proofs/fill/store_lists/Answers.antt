@@ -18,40 +18,41 @@ loop-entry-init c =
 
 pub in_order-named-requires : goal.in_order-named-requires
 in_order-named-requires c =
-    let bytes = gauge_bytes _ _ _ _ _ _ _ _ c.loop-entry.invariant _ c.in-Some.ensures.steps _ c.in-Gauge.is in
+    let bytes = gauge_bytes _ _ _ _ _ _ _ _ c.loop-entry.invariant _ c.in-Some.ensures.steps _ c.in-Gauge.is _ c.size_count-count.ensures in
     (bytes.some, bytes.few)
 
 pub order-named-requires : goal.order-named-requires
-order-named-requires c = gauge_bytes _ _ _ _ _ _ _ _ c.loop-entry.invariant _ c.in-Some.ensures.steps _ c.in-Gauge.is
+order-named-requires c = gauge_bytes _ _ _ _ _ _ _ _ c.loop-entry.invariant _ c.in-Some.ensures.steps _ c.in-Gauge.is _ c.size_count-count.ensures
 
 pub store_gauge-requires : goal.store_gauge-requires
 store_gauge-requires c =
     let filling = c.loop-entry.invariant in
     let came = c.in-Some.ensures.steps in
-    let is-gauge = c.in-Gauge.is in (
-      gauge_room _ _ _ _ _ _ _ _ filling _ came _ is-gauge,
-      gauge_bytes _ _ _ _ _ _ _ _ filling _ came _ is-gauge,
+    let is-gauge = c.in-Gauge.is in
+    let counted = c.size_count-count.ensures in (
+      gauge_room _ _ _ _ _ _ _ _ filling _ came _ is-gauge _ counted,
+      gauge_bytes _ _ _ _ _ _ _ _ filling _ came _ is-gauge _ counted,
       elim c.if-known.branch [
-        | then-known w ↦ gauge_in_order _ _ _ _ _ _ _ _ filling _ came _ is-gauge _ c.asks_order-known.ensures w.if-known.true _ (w.named-is ∙ w.in_order-named.ensures)
+        | then-known w ↦ gauge_in_order _ _ _ _ _ _ _ _ filling _ came _ is-gauge _ counted _ c.asks_order-known.ensures w.if-known.true _ (w.named-is ∙ w.in_order-named.ensures)
         | else-known w ↦ w.named-is ∙ w.order-named.ensures
       ],
     )
 
 pub overflow_add-to : goal.overflow_add-to
 overflow_add-to c =
-    let few = gauge_fits _ _ _ _ _ _ _ _ c.loop-entry.invariant _ c.in-Some.ensures.steps _ c.in-Gauge.is in record { fits = omega arith }
+    let few = gauge_fits _ _ _ _ _ _ _ _ c.loop-entry.invariant _ c.in-Some.ensures.steps _ c.in-Gauge.is _ c.size_count-count.ensures in record { fits = omega arith }
 
 pub overflow_add-to-in-Gauge : goal.overflow_add-to-in-Gauge
 overflow_add-to-in-Gauge c =
-    let few = gauge_fits _ _ _ _ _ _ _ _ c.loop-entry.invariant _ c.in-Some.ensures.steps _ c.in-Gauge.is in record { fits = omega arith }
+    let few = gauge_fits _ _ _ _ _ _ _ _ c.loop-entry.invariant _ c.in-Some.ensures.steps _ c.in-Gauge.is _ c.size_count-count.ensures in record { fits = omega arith }
 
 pub overflow_add-part : goal.overflow_add-part
 overflow_add-part c =
-    let few = gauge_part _ _ _ _ _ _ _ _ c.loop-entry.invariant _ c.in-Some.ensures.steps _ c.in-Gauge.is in record { fits = omega arith }
+    let few = gauge_part _ _ _ _ _ _ _ _ c.loop-entry.invariant _ c.in-Some.ensures.steps _ c.in-Gauge.is _ c.size_count-count.ensures in record { fits = omega arith }
 
 pub loop-entry-preserved-in-Gauge : goal.loop-entry-preserved-in-Gauge
 loop-entry-preserved-in-Gauge c =
-    filling_gauge _ _ _ _ _ _ _ _ c.loop-entry.invariant _ c.in-Some.ensures.steps _ c.in-Gauge.is _ c.store_gauge.ensures
+    filling_gauge _ _ _ _ _ _ _ _ c.loop-entry.invariant _ c.in-Some.ensures.steps _ c.in-Gauge.is _ c.size_count-count.ensures _ c.store_gauge.ensures
 
 pub store_join-to-requires : goal.store_join-to-requires
 store_join-to-requires c = join_ready _ _ _ _ _ _ _ _ c.loop-entry.invariant _ c.in-Some.ensures.steps _ c.in-Join.is
