@@ -44,7 +44,9 @@ impl<'a> Line<'a> {
     }
 
     // The number after the sign that stands next.
-    pub(crate) fn next_number(&mut self) -> u32 {
+    pub(crate) fn next_number(&mut self) -> u32
+        ensures { length self.new.rest.now ≤ length self.old.rest.now }
+    {
         if let Some((_, rest)) = self.rest.split_first() {
             self.rest = rest;
         }

@@ -62,6 +62,8 @@ mod fitting;
 mod lending;
 mod letter;
 
+ghost use Rattle.std.specs.Prelude.{◌≤◌, IfSome};
+
 use cases_line::line::Line;
 use input::read_input;
 use std::io::Read;
@@ -73,13 +75,16 @@ const CASES: u64 = 1_000_000_000;
 const MOST: usize = 65_536;
 
 // The number of bytes of the next case, where the input has not ended.
-fn next_length(source: &mut impl Read) -> Option<usize> {
+fn next_length(source: &mut impl Read) -> Option<usize>
+    ensures { IfSome result (λ length. length ≤ 65_536) }
+{
     let mut head = [0u8; 7];
     if read_input(source, &mut head).length < head.len() {
         return None;
     }
     let mut line = Line { rest: &head };
-    Some(line.number() as usize).filter(|length| *length > 0)
+    let length = (line.number() as usize).min(MOST);
+    if length == 0 { None } else { Some(length) }
 }
 
 // Reads a case, as many bytes as there is room for, and shows what it gives. The file that is lent has so many bytes, and
@@ -102,9 +107,11 @@ fn show_sized(
     length: usize,
     file: &mut [u8],
     bytes: usize,
-) -> usize {
+) -> usize
+    requires { length ≤ 65_536 }
+{
     let mut room = [0u8; MOST];
-    show_read(out, source, &mut room[..length.min(MOST)], file, bytes)
+    show_read(out, source, &mut room[..length], file, bytes)
 }
 
 // All cases, with room for a file.
