@@ -3,7 +3,7 @@
 //
 // 4,096 bytes of a file are enough: the text hangs on them alone (`enough_read` of report and of materialtext). So what is
 // cut off there is of no account.
-ghost use Rattle.std.specs.Prelude.{ℕ, ◌≤◌, length, IfOk};
+ghost use Rattle.std.specs.Prelude.{ℕ, ◌≡◌, ◌≤◌, length, IfOk};
 ghost use Rattle.input.specs.Counts.{IsPrefixLen};
 ghost use Rattle.text.specs.Printing.{Counted};
 ghost use Rattle.facefile.specs.Format.{face_of};
@@ -41,7 +41,7 @@ pub trait Program: Text {
     // Prints the text of the bytes that came into a room, by way of a buffer that is as long as its own texts ask.
     fn print(out: &impl Print, input: Input, room: &[u8]) -> Result<(), Fault>
         requires came { IsPrefixLen input.length room.now }
-        requires enough { 4_096 ≤ length room.now };
+        requires enough { 4_096 ≡ length room.now };
 }
 
 // Document 01's `faces`: the outer sizes, and the face that fits 64,000 by 64,000.
@@ -88,13 +88,10 @@ impl Program for Material {
     }
 }
 
-// What a program says of the bytes that came into a room, which has room for all that the text hangs on, in a buffer with room
-// for every text of the program.
+// What a program says of the bytes that came into a room.
 #[tactic(auto, unfolding(input::specs::Outcome::arrived, crate::specs::Reply::RepliesBy))]
-fn reply<P: Text>(input: Input, room: &[u8], text: &mut [u8]) -> io::Result<usize>
-    requires came { IsPrefixLen input.length room.now }
-    requires enough { 4_096 ≤ length room.now }
-    requires text_long { P.most ≤ length text.old }
+pub fn reply<P: Text>(input: Input, room: &[u8], text: &mut [u8]) -> io::Result<usize>
+    requires { IsPrefixLen input.length room.now }
     ensures replies { Replies P.Says input room.now text.old text.new result }
     ensures counted { IfOk result (λ n. Counted P.most text.new n) }
 {
@@ -102,7 +99,8 @@ fn reply<P: Text>(input: Input, room: &[u8], text: &mut [u8]) -> io::Result<usiz
     Ok(P::text(&room[..length], text))
 }
 
-// Prints that. Where a read failed nothing is printed.
+// Prints that. The room takes all that the text hangs on, and the buffer every text of the program. Where a read failed
+// nothing is printed.
 fn print_text<P: Text>(
     out: &impl Print,
     input: Input,
@@ -110,7 +108,7 @@ fn print_text<P: Text>(
     text: &mut [u8],
 ) -> Result<(), Fault>
     requires came { IsPrefixLen input.length room.now }
-    requires enough { 4_096 ≤ length room.now }
+    requires enough { 4_096 ≡ length room.now }
     requires text_long { P.most ≤ length text.old }
 {
     let length = reply::<P>(input, room, text).map_err(Fault::Input)?;
