@@ -2,7 +2,7 @@
 -- A turn writes the two fields of the first size left, both below 65,536, and at the end no size is left.
 use mathlib.Core.Path.{◌≡◌, refl, sym, ap, ap₂, subst, ◌∙◌}
 use mathlib.Core.List.{List, [], ◌∷◌, ◌++◌, Memᴰ}
-use Prim.Native.Nat.{ℕ, ◌*◌, ◌/◌, ◌%◌, ◌<◌}
+use Prim.Native.Nat.{ℕ, zero, suc, ◌*◌, ◌/◌, ◌%◌, ◌<◌}
 use native.Mathlib.Omega.{arith}
 use lib.ListN.{length, get_or, take, drop}
 use mir.Syntax.{w32}
@@ -19,7 +19,8 @@ use Rattle.written.specs.EntriesOf.{entries_of}
 use Rattle.written.specs.FileOf.{field_bytes}
 use Rattle.text.specs.declared.page.Page.{Page}
 use Rattle.text.specs.inside.Writing.{Fits, Wrote}
-use Rattle.text.proofs.Dues.{Due, due_start, due_fits, due_more, due_done}
+use Rattle.text.proofs.Appends.{appended_length}
+use Rattle.text.proofs.Dues.{Due, due_start, due_more, due_done}
 use Rattle.gauges.specs.inside.GaugeWords.{GaugeWords}
 
 -- The last two of a number's four bytes.
@@ -101,11 +102,11 @@ module _ (old : Page ℕ) (words : List ℕ) (left : ChunksExact ℕ) (now : Pag
     each : (z : Item) → Memᴰ z (here.first ∷ here.more) → Limited z
     each = subst (λ (l : List Item). (z : Item) → Memᴰ z l → Limited z) here.same s.limited
 
-    pub height_fits : get_or two 0 0 < 65_536
-    height_fits = let low = (each here.first (Memᴰ.head refl)).low in omega (arith, here.high)
-
-    pub width_fits : get_or two 1 0 < 65_536
-    width_fits = let narrow = (each here.first (Memᴰ.head refl)).narrow in omega (arith, here.wide)
+    -- Each of the two words is a field's.
+    pub word_fits : (i : ℕ) → i < 2 → get_or two i 0 < 65_536
+    word_fits zero below = let low = (each here.first (Memᴰ.head refl)).low in omega (arith, here.high)
+    word_fits (suc zero) below = let narrow = (each here.first (Memᴰ.head refl)).narrow in omega (arith, here.wide)
+    word_fits (suc (suc i)) below = absurd (omega arith)
 
     next_due : Due old (size_bytes s.all) (field_bytes (get_or two 0 0) ++ (field_bytes (get_or two 1 0) ++ size_bytes here.more)) now
     next_due = subst (λ (l : List ℕ). Due old (size_bytes s.all) l now) (ap size_bytes here.same ∙ fields) s.due
@@ -114,17 +115,21 @@ module _ (old : Page ℕ) (words : List ℕ) (left : ChunksExact ℕ) (now : Pag
         fields =
             ap₂ (λ (h : ℕ) (w : ℕ). field_bytes h ++ (field_bytes w ++ size_bytes here.more)) (sym here.high) (sym here.wide)
 
-    pub height_room : Fits now (field_bytes (get_or two 0 0))
-    height_room =
-        due_fits old (size_bytes s.all) (field_bytes (get_or two 0 0)) (field_bytes (get_or two 1 0) ++ size_bytes here.more) now next_due
+    -- There is room for two fields, whatever they say.
+    pub first_room : (x : ℕ) → Fits now (field_bytes x)
+    first_room x = let room = next_due.fits.room in record { room = omega arith }
+
+    pub second_room : (x : ℕ) (mid : Page ℕ) → Wrote now (field_bytes x) mid → (y : ℕ) → Fits mid (field_bytes y)
+    second_room x mid t y =
+        let room = next_due.fits.room in
+        let place = t.appended.place in
+        let same = appended_length t.appended in
+        record { room = omega arith }
 
     module _ (mid : Page ℕ) (t : Wrote now (field_bytes (get_or two 0 0)) mid) where
       width_due : Due old (size_bytes s.all) (field_bytes (get_or two 1 0) ++ size_bytes here.more) mid
       width_due =
           due_more old (size_bytes s.all) (field_bytes (get_or two 0 0)) (field_bytes (get_or two 1 0) ++ size_bytes here.more) now next_due mid t
-
-      pub width_room : Fits mid (field_bytes (get_or two 1 0))
-      width_room = due_fits old (size_bytes s.all) (field_bytes (get_or two 1 0)) (size_bytes here.more) mid width_due
 
       pub sizes_more : (new : Page ℕ) → Wrote mid (field_bytes (get_or two 1 0)) new → SizesDue old words then new
       sizes_more new u =

@@ -2,7 +2,7 @@
 -- The loop keeps `SizesDue`, that the fields of the sizes left complete those of all.
 use borrow.Author.Rules.{rules}
 use native.Mathlib.Omega.{arith}
-use Rattle.gauges.proofs.FileBytes.{sizes_start, height_fits, width_fits, height_room, width_room, sizes_more, sizes_done}
+use Rattle.gauges.proofs.FileBytes.{sizes_start, word_fits, first_room, second_room, sizes_more, sizes_done}
 use Rattle.gauges.proofs.file_bytes.write_sizes.Goals as goal
 
 pub loop-size-init : goal.loop-size-init
@@ -11,15 +11,15 @@ loop-size-init c = search (rules, sizes_start)
 pub write_field-requires : goal.write_field-requires
 write_field-requires c =
     let step = c.in-Some.ensures.steps in (
-      height_fits _ _ _ _ c.loop-size.invariant.2 _ c.next.new.self step.0 step.1.0 step.1.1,
-      height_room _ _ _ _ c.loop-size.invariant.2 _ c.next.new.self step.0 step.1.0 step.1.1,
+      word_fits _ _ _ _ c.loop-size.invariant.2 _ c.next.new.self step.0 step.1.0 step.1.1 _ (omega arith),
+      first_room _ _ _ _ c.loop-size.invariant.2 _ c.next.new.self step.0 step.1.0 step.1.1 _,
     )
 
 pub write_field-requires-in-loop-size : goal.write_field-requires-in-loop-size
 write_field-requires-in-loop-size c =
     let step = c.in-Some.ensures.steps in (
-      width_fits _ _ _ _ c.loop-size.invariant.2 _ c.next.new.self step.0 step.1.0 step.1.1,
-      width_room _ _ _ _ c.loop-size.invariant.2 _ c.next.new.self step.0 step.1.0 step.1.1 _ c.write_field.ensures,
+      word_fits _ _ _ _ c.loop-size.invariant.2 _ c.next.new.self step.0 step.1.0 step.1.1 _ (omega arith),
+      second_room _ _ _ _ c.loop-size.invariant.2 _ c.next.new.self step.0 step.1.0 step.1.1 _ _ c.write_field.ensures _,
     )
 
 pub loop-size-preserved : goal.loop-size-preserved
