@@ -14,8 +14,8 @@ use materialsheet::print_face;
 use rendering::render::render_refused;
 use report::{RIB, WIDEST};
 
-// The text of a taken face of so many gauges, or the check that refuses it. The scratch lies here, so that a refused file takes
-// no stack for it.
+// The text of a taken face of so many gauges, or the check that refuses it. The scratch lies here, so that it need not be on
+// the stack where the file is refused.
 fn sheet_text(file: &[u8], gauges: usize, text: &mut [u8]) -> Result<usize, Check>
     requires gauged { Gauged file.now gauges }
     requires text_long { material_bytes ≤ length text.old }

@@ -41,8 +41,8 @@ impl<'a, T: Copy> Page<'a, T> {
     }
 }
 
-// A number in base ten at a place of a buffer: what comes before its last digit, if anything does, and then that digit. It
-// answers the place after it, which a page would have loaded and stored at each digit.
+// A number in base ten at a place of a buffer: what comes before its last digit, if anything does, and then that digit.
+// Answers the place after it. The place is a value here: that of a page would be loaded and stored at each digit.
 fn put_number(buffer: &mut [u8], at: usize, n: u32) -> usize
     requires { at + length (decimal n) ≤ length buffer.old }
     ensures { Appended buffer.old at (decimal n) buffer.new result }
