@@ -39,8 +39,9 @@ CALLS = {
     "materialtext": "mp",
 }
 
-# What these crates say of a read that failed only the programs `faces` and `material` ask. tools/test_faces.sh tries it.
-UNREACHED = ["input", "filter"]
+# What these crates do only the programs `faces` and `material` ask, which tools/test_faces.sh tries; and no caller reads the word
+# that the wrong program of `moving` changes.
+UNREACHED = {"input", "filter", "moving/last_sums_changed"}
 
 # The status of `rt try` where each piece came out right, and where one did not: a fault, another text or no end.
 RIGHT = 0
@@ -145,7 +146,7 @@ def main():
         for edit in sorted((ROOT / "crates").glob("*/must-fail/*.edit")):
             crate = edit.parent.parent.name
             label = f"{crate}/{edit.stem}"
-            if crate in UNREACHED or not edits(edit)[0].startswith("src/"):
+            if {crate, label} & UNREACHED or not edits(edit)[0].startswith("src/"):
                 continue
             if wanted and not {crate, label} & set(wanted):
                 continue
