@@ -167,11 +167,13 @@ inside() { # FUNCTION NAME
     sed -n "s/^ *\([0-9,]*\) (.*:$1 \[.*/\1/p" "$work/$2.counts" | tr -d ,
 }
 
-# The same for an exported call, which is one and the same in the programs of both compilers.
+# The same for an exported call, which is one and the same in the programs of both compilers. Where the buffers lie is not, and
+# on that some instructions of the writing call hang: then it is the larger count.
 rattle() { # FUNCTION NAME
-    found=$(inside "$1" "$2-gcc")
-    [ "$found" = "$(inside "$1" "$2-clang")" ] || { echo "$1 on $2 takes two counts" >&2; exit 1; }
-    echo "$found"
+    by_one=$(inside "$1" "$2-gcc") by_other=$(inside "$1" "$2-clang")
+    most=$((by_one > by_other ? by_one : by_other))
+    [ $((20 * most)) -le $((21 * (by_one + by_other - most))) ] || { echo "$1 on $2 takes two counts" >&2; exit 1; }
+    echo "$most"
 }
 
 # ---- the tables
