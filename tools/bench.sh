@@ -168,12 +168,15 @@ inside() { # FUNCTION NAME
 }
 
 # The same for an exported call, which is one and the same in the programs of both compilers. Where the buffers lie is not, and
-# on that some instructions of the writing call hang: then it is the larger count.
+# on that some instructions of the writing call hang: of it this is the larger count.
 rattle() { # FUNCTION NAME
     by_one=$(inside "$1" "$2-gcc") by_other=$(inside "$1" "$2-clang")
-    most=$((by_one > by_other ? by_one : by_other))
-    [ $((20 * most)) -le $((21 * (by_one + by_other - most))) ] || { echo "$1 on $2 takes two counts" >&2; exit 1; }
-    echo "$most"
+    if [ "$1" = rattle_write_file ] && [ "$by_one" ] && [ "$by_other" ]; then
+        echo $((by_one > by_other ? by_one : by_other))
+        return
+    fi
+    [ "$by_one" ] && [ "$by_one" = "$by_other" ] || { echo "$1 on $2 takes no count, or two" >&2; exit 1; }
+    echo "$by_one"
 }
 
 # ---- the tables
