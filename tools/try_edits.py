@@ -39,9 +39,9 @@ CALLS = {
     "materialtext": "mp",
 }
 
-# What these crates do only the programs `faces` and `material` ask, which tools/test_faces.sh tries; and no caller reads the word
-# that the wrong program of `moving` changes.
-UNREACHED = {"input", "filter", "moving/last_sums_changed"}
+# What the first two do only the programs `faces` and `material` ask, which tools/test_faces.sh tries. Those of the cases are wrong
+# of lines that are not stored, and no caller reads the word that the one of `moving` changes.
+UNREACHED = {"input", "filter", "cases_line", "cases_run", "moving/last_sums_changed"}
 
 # The status of `rt try` where each piece came out right, and where one did not: a fault, another text or no end.
 RIGHT = 0
